@@ -1,0 +1,38 @@
+ghost use Rattle.std.specs.Prelude.{◌≡◌};
+ghost use Rattle.io_core.specs.Causes.{HasCause};
+ghost use Rattle.io_core.specs.Writing.{PutsAll};
+ghost use Rattle.io_core.specs.Parts.{part_text, parts_text};
+
+use super::puts::{put_all, put_number};
+use super::sink::Sink;
+use super::source::Failed;
+
+/// A part of a line.
+#[derive(Clone, Copy)]
+pub enum Part<'a> {
+    Text(&'a [u8]),
+    Number(u64),
+}
+
+fn put_part<O: Sink>(sink: &mut O, part: &Part<'_>) -> Result<(), Failed>
+    ensures bytes { PutsAll (O.taken sink.old) (O.taken sink.new) result (part_text part.now) }
+    ensures unflushed { O.flushed sink.new ≡ O.flushed sink.old }
+    ensures cause { HasCause (O.faults sink.old) (O.faults sink.new) result }
+{
+    match part {
+        Part::Text(text) => put_all(sink, text),
+        Part::Number(n) => put_number(sink, *n),
+    }
+}
+
+/// Puts the parts in order. After `Failed` the sink took a front of their text.
+pub fn put_parts<O: Sink>(sink: &mut O, parts: &[Part<'_>]) -> Result<(), Failed>
+    ensures bytes { PutsAll (O.taken sink.old) (O.taken sink.new) result (parts_text parts.now) }
+    ensures unflushed { O.flushed sink.new ≡ O.flushed sink.old }
+    ensures cause { HasCause (O.faults sink.old) (O.faults sink.new) result }
+{
+    for part in parts {
+        put_part(sink, part)?;
+    }
+    Ok(())
+}
