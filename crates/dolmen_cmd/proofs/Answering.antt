@@ -1,15 +1,14 @@
 -- A verdict whose text or line was put is an answer of a run.
-use Rattle.std.proofs.Common.{◌≡◌, ◌≢◌, ℕ, ◌≤◌, ◌^◌, List, length, Option, None, Some, refl, sym, ap, subst, inl, inr, ◌⊎◌, arith}
+use Rattle.std.proofs.Common.{◌≡◌, ◌≢◌, ℕ, ◌≤◌, ◌^◌, List, length, Option, None, Some, refl, sym, subst, inl, inr, ◌⊎◌, arith}
 use Rattle.std.specs.Io.KnownBytes.{Keeps, Appends}
 use Rattle.io_core.specs.Causes.{Rose}
 use Rattle.io_core.specs.Writing.{IsFlushed}
-use Rattle.script_core.specs.Forms.{Command}
 use Rattle.dolmen_cmd.specs.declared.mode.Mode.TheVariants.{Check}
 use Rattle.dolmen_cmd.specs.declared.status.Status.{Status}
 use Rattle.dolmen_cmd.specs.declared.status.Status.TheVariants.{Done, Refused, Usage, ReadFault, WriteFault, NoMemory, TooLong}
 use Rattle.dolmen_cmd.specs.declared.verdict.Verdict.{Verdict}
-use Rattle.dolmen_cmd.specs.Lines.{line_of, ok_line, shown}
-use Rattle.dolmen_cmd.specs.Answer.{Input, Output, IsDue, IsSettled, Yields, IsWritten, IsPlain, Answers}
+use Rattle.dolmen_cmd.specs.Lines.{line_of, ok_line}
+use Rattle.dolmen_cmd.specs.Answer.{Input, Output, IsDue, Yields, IsWritten, IsPlain, Answers}
 use Rattle.dolmen_cmd.specs.Verdicts.{IsVerdict}
 use Rattle.dolmen_cmd.specs.Reports.{IsReported, IsFinished}
 
@@ -91,5 +90,5 @@ reported_answers input out err verdict result v not_done output (inl took) =
     subst (λ (s : Status). Answers input out err s) (sym took.same) (reported input out err verdict v not_done output took.line)
 reported_answers input out err verdict result v not_done output (inr lost) =
     subst (λ (s : Status). Answers input out err s) (sym lost.fault) (write_fault input out err verdict v
-      (inr (record { due = verdict.status; is_due = v.due; not_done = not_done; rose = lost.rose; line = lost.line; output = output }))
-      (λ out_rose err_rose. err_rose lost.rose))
+    (inr (record { due = verdict.status; is_due = v.due; not_done = not_done; rose = lost.rose; line = lost.line; output = output }))
+    (λ out_rose err_rose. err_rose lost.rose))

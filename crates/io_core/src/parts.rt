@@ -1,19 +1,20 @@
 ghost use Rattle.std.specs.Prelude.{◌≡◌};
 ghost use Rattle.io_core.specs.Causes.{HasCause};
-ghost use Rattle.io_core.specs.Writing.{PutsAll};
 ghost use Rattle.io_core.specs.Parts.{part_text, parts_text};
+ghost use Rattle.io_core.specs.Writing.{PutsAll};
 
+use super::errors::Failed;
 use super::puts::{put_all, put_number};
 use super::sink::Sink;
-use super::source::Failed;
 
-/// A part of a line.
-#[derive(Clone, Copy)]
+/// A part of a text: bytes as they are, or a number, which is put in decimal.
+#[derive(Clone, Copy, Debug)]
 pub enum Part<'a> {
     Text(&'a [u8]),
     Number(u64),
 }
 
+// Puts the text of one part.
 fn put_part<O: Sink>(sink: &mut O, part: &Part<'_>) -> Result<(), Failed>
     ensures bytes { PutsAll (O.taken sink.old) (O.taken sink.new) result (part_text part.now) }
     ensures unflushed { O.flushed sink.new ≡ O.flushed sink.old }
@@ -25,7 +26,10 @@ fn put_part<O: Sink>(sink: &mut O, part: &Part<'_>) -> Result<(), Failed>
     }
 }
 
-/// Puts the parts in order. After `Failed` the sink took a front of their text.
+/// Puts the text of the parts in their order, with nothing between them.
+///
+/// `Failed` comes only where the sink's count of failures rose in this call. Then the sink took a
+/// front of the text.
 pub fn put_parts<O: Sink>(sink: &mut O, parts: &[Part<'_>]) -> Result<(), Failed>
     ensures bytes { PutsAll (O.taken sink.old) (O.taken sink.new) result (parts_text parts.now) }
     ensures unflushed { O.flushed sink.new ≡ O.flushed sink.old }

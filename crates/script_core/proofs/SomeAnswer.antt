@@ -3,10 +3,9 @@ use Rattle.std.proofs.Common.{◌≡◌, ◌≢◌, ℕ, ◌+◌, ◌-◌, ◌�
 use Rattle.lex_core.specs.declared.code.Code.{Code}
 use Rattle.lex_core.specs.declared.code.Code.TheVariants.{UnsupportedForm, FunctionNameInUse, UnknownFunction}
 use Rattle.lex_core.specs.Text.{after_white_space}
-use Rattle.script_core.specs.declared.refusal.Refusal.{Refusal}
 use Rattle.script_core.specs.Forms.{Command, SetLogic, DeclareConst, Assert, CheckSat, Begins}
 use Rattle.script_core.specs.Steps.{Environment, empty, IsAllowed, Step, Breaks, Runs, is_in_use, is_known}
-use Rattle.script_core.specs.Acceptance.{Fault, Accepts, Refuses, SomeAnswer}
+use Rattle.script_core.specs.Acceptance.{Fault, SomeAnswer}
 use Rattle.script_core.specs.Reading.{command_at}
 use Rattle.script_core.proofs.CommandReading.{command_begins, command_read}
 use Rattle.script_core.proofs.Running.{begins_shorter, after_white_space_shorter, runs_shorter}
@@ -114,7 +113,18 @@ halts (suc n) bytes old short = from_rest n bytes old short (λ later new less. 
 pub some_answer : (bytes : List ℕ) → SomeAnswer bytes
 some_answer bytes = let h = halts (length bytes) bytes empty (omega arith) in elim h.halt [
   | inl ends ↦ inl (h.commands, record { end_seen = refl; rest = h.rest; env = h.env; runs = h.runs; ends = ends })
-  | inr fault ↦ inr (record { command = length h.commands + 1; at = length bytes - length (after_white_space h.rest); rule = fault.1 },
-      record { end_seen = refl; commands = h.commands; rest = h.rest; env = h.env; runs = h.runs; goes_on = fault.0; number = refl;
-        place = omega (arith, after_white_space_shorter h.rest, runs_shorter bytes empty h.commands h.rest h.env h.runs); fault = fault.2 })
+  | inr fault ↦ inr (
+    record { command = length h.commands + 1; at = length bytes - length (after_white_space h.rest); rule = fault.1 },
+    record {
+      end_seen = refl;
+      commands = h.commands;
+      rest = h.rest;
+      env = h.env;
+      runs = h.runs;
+      goes_on = fault.0;
+      number = refl;
+      place = omega (arith, after_white_space_shorter h.rest, runs_shorter bytes empty h.commands h.rest h.env h.runs);
+      fault = fault.2;
+    },
+  )
 ]
