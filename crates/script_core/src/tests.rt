@@ -1,41 +1,147 @@
 use super::*;
-use lex_core::Code;
+use sig_table::Code;
+use std::alloc::{AllocError, Global};
 use std::process::Abort;
 use std::test::Fail;
 
-// Feeds the text in two chunks, the first of so many bytes, and answers what finishing says and the number of commands.
-fn judged(
+// What a session answers that is fed the text in two chunks, the first of so many bytes, and then finished.
+fn answer(
     rt: &impl Abort,
-    mut session: Session,
+    alloc: Global,
     text: &[u8],
     first: usize,
 ) -> Result<(Result<(), Stop>, u32), Fail> {
     assert!(rt; first <= text.len());
-    assert!(rt; text.len() < 100);
-    assert!(rt; session.taken() == 0);
+    assert!(rt; text.len() < 5000);
     let (front, back) = text.split_at(first);
-    assert_eq!(rt; session.feed(front)?, Progress::More);
-    assert_eq!(rt; session.feed(back)?, Progress::More);
+    let mut session = Session::new(alloc)?;
+    assert!(rt; session.taken() == 0);
+    if let Err(stop) = session.feed(front) {
+        return Ok((Err(stop), session.count()));
+    }
+    if let Err(stop) = session.feed(back) {
+        return Ok((Err(stop), session.count()));
+    }
     let answer = session.finish();
     assert_eq!(rt; session.taken() as usize, text.len());
     assert_eq!(rt; session.finish(), answer);
     Ok((answer, session.count()))
 }
 
+fn refused(command: u32, at: u32, rule: Code) -> Result<(), Stop> {
+    Err(Stop::Refused(Refusal { command, at, rule }))
+}
+
+fn try_refused(
+    rt: &impl Abort,
+    alloc: Global,
+    text: &[u8],
+    command: u32,
+    at: u32,
+    rule: Code,
+) -> Result<(), Fail> {
+    assert!(rt; 0 < command);
+    assert_eq!(rt;
+        answer(rt, alloc, text, 0)?,
+        (refused(command, at, rule), command - 1)
+    );
+    Ok(())
+}
+
 #[test]
-fn judges_chunks_as_one_text(rt: HostRuntime) -> Result<(), Fail> {
-    let accepted: &[u8] = b" ( set-logic\nQF_UF)(declare-const p Bool)(assert p)(check-sat) ";
-    let refused: &[u8] = b"(set-logic QF_UF)(declare-const p Bool)(declare-const p Bool)";
-    let refusal = Stop::Refused(Refusal {
-        command: 3,
-        at: 39,
-        rule: Code::FunctionNameInUse,
-    });
-    for first in 0..60 {
-        let session = Session::new(rt.alloc())?;
-        assert_eq!(rt; judged(&rt, session, accepted, first)?, (Ok(()), 4));
-        let session = Session::new(rt.alloc())?;
-        assert_eq!(rt; judged(&rt, session, refused, first)?, (Err(refusal), 2));
+fn refuses_texts_at_their_bytes(rt: HostRuntime) -> Result<(), Fail> {
+    let rows: [(&[u8], u32, u32, Code); 11] = [
+        (b"a[", 1, 0, Code::AtomOutsideLists),
+        (b"(echo \"a\"", 1, 0, Code::UnclosedList),
+        (
+            b"(set-logic QF_UF)(assert (= 007 7))",
+            2,
+            28,
+            Code::MalformedWord,
+        ),
+        (b"(echo |a\\b|)", 1, 8, Code::BackslashInQuotedSymbol),
+        (b"(echo \"a", 1, 6, Code::UnclosedString),
+        (b"(echo [)", 1, 6, Code::UnexpectedByte),
+        (
+            b"(set-logic QF_UF)(check-sat))",
+            3,
+            28,
+            Code::UnmatchedClose,
+        ),
+        (b"(set-logic QF_UF) x", 2, 18, Code::AtomOutsideLists),
+        (b"(set-logic QF_UF)(assert q)", 2, 17, Code::UnknownFunction),
+        (
+            b"(set-logic QF_UF)(assert (or true true))",
+            2,
+            17,
+            Code::UnsupportedForm,
+        ),
+        (
+            b"(set-logic QF_UF)(declare-const |a b| Bool)",
+            2,
+            17,
+            Code::UnsupportedForm,
+        ),
+    ];
+    for (text, command, at, rule) in &rows {
+        try_refused(&rt, rt.alloc(), text, *command, *at, *rule)?;
     }
+    Ok(())
+}
+
+#[test]
+fn accepts_every_spelling_of_a_symbol(rt: HostRuntime) -> Result<(), Fail> {
+    let text: &[u8] = b"; note\n(set-logic |QF_UF|)(declare-const |p| Bool)(assert p);";
+    assert_eq!(rt; answer(&rt, rt.alloc(), text, 0)?, (Ok(()), 3));
+    assert_eq!(rt; answer(&rt, rt.alloc(), b"; note", 0)?, (Ok(()), 0));
+    Ok(())
+}
+
+#[test]
+fn answers_the_same_however_the_text_is_cut(rt: HostRuntime) -> Result<(), Fail> {
+    let text: &[u8] = b"(set-logic QF_UF)(declare-const |ab";
+    for first in 0..35 {
+        let want = refused(2, 32, Code::UnclosedQuotedSymbol);
+        assert_eq!(rt; answer(&rt, rt.alloc(), text, first)?, (want, 1));
+    }
+    Ok(())
+}
+
+// So many opening parentheses.
+fn openings(alloc: Global, count: usize) -> Result<Vec<u8>, AllocError> {
+    vec![in alloc; b'('; count]
+}
+
+#[test]
+fn refuses_lists_too_deep(rt: HostRuntime) -> Result<(), Fail> {
+    let text = openings(rt.alloc(), 4001)?;
+    try_refused(
+        &rt,
+        rt.alloc(),
+        text.as_slice(),
+        1,
+        4000,
+        Code::ListsTooDeep,
+    )
+}
+
+// Feeds the text byte by byte, and finishes.
+fn bytewise(rt: &impl Abort, mut session: Session, text: &[u8]) -> Result<(), Stop> {
+    assert!(rt; text.len() < 5000);
+    for byte in text {
+        assert!(rt; session.taken() < 5000);
+        session.feed(&[*byte])?;
+    }
+    session.finish()
+}
+
+#[test]
+fn takes_one_byte_at_a_time(rt: HostRuntime) -> Result<(), Fail> {
+    let text: &[u8] = b"(set-logic QF_UF)(declare-const |ab";
+    let session = Session::new(rt.alloc())?;
+    assert_eq!(rt;
+        bytewise(&rt, session, text),
+        refused(2, 32, Code::UnclosedQuotedSymbol)
+    );
     Ok(())
 }

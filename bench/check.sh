@@ -1,0 +1,25 @@
+#!/usr/bin/env bash
+# Measures `dolmen check` on accepted scripts of 1, 8 and 64 MB: MB/s and peak memory. The time grows linearly with the
+# input but for one thing: declared names are a list that is searched, so each script declares only a hundred names.
+set -euo pipefail
+cd "$(dirname "$0")/.."
+. bench/measure.sh
+program=${1:-crates/dolmen/out/dolmen}
+[ -x "$program" ] || { echo "build the program first: (cd crates/dolmen && rt run -- check < ../../examples/first.smt2)" >&2; exit 1; }
+script=$(mktemp)
+trap 'rm -f "$script"' EXIT
+
+# script_of BYTES: a script of about so many bytes.
+script_of() {
+  awk -v bytes="$1" 'BEGIN {
+    written = printf_length("(set-logic QF_UF)\n")
+    for (i = 0; i < 100; i++) written += printf_length("(declare-const condition_" i " Bool)\n")
+    for (i = 0; written < bytes; i++) written += printf_length("(assert condition_" i % 100 ") ; number " i "\n(check-sat)\n")
+  }
+  function printf_length(line) { printf "%s", line; return length(line) }'
+}
+
+for bytes in 1000000 8000000 64000000; do
+  script_of "$bytes" >"$script"
+  measure "check" "$script" "$program" check
+done

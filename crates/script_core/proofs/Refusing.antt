@@ -1,0 +1,127 @@
+-- From the first token that breaks a rule, or the fault of the text, to the refusal of the whole text.
+use Rattle.std.proofs.Common.{◌≡◌, ℕ, ◌+◌, ◌*◌, ◌<◌, ◌≤◌, ◌^◌, Bool, true, false, List, [], ◌∷◌, ◌++◌, length, map, Option, None, Some, Result, Ok, Err, refl, sym, ◌∙◌, ap, subst, append_assoc, append-nil, length-append, ◌⊎◌, inl, inr, arith}
+use Rattle.std.specs.Prelude.{IfErr, OnOk}
+use Rattle.std.proofs.lemmas.List.{length-map}
+use Rattle.lex_core.specs.Faults.{ShowsFault}
+use Rattle.lex_core.specs.Lexeme.{AreLexemes, CloseParen, Comment, Lexeme, Lexes, OpenParen, QuotedSymbol, StringLiteral, WhiteSpace, Word as WordLexeme, joined_text, lexeme_tokens, quotes_doubled}
+use Rattle.lex_core.specs.LexerCalls.{ExtendsTable, FaultsAtByte, FaultsAtEnd, HasRead, IfFault, KeepsTexts, LexesAtEnd, ReadsByte}
+use Rattle.lex_core.specs.LexerSteps.{LexerState}
+use Rattle.lex_core.specs.Segmentation.{partial_text}
+use Rattle.lex_core.specs.Spelling.{WordSpells}
+use Rattle.lex_core.specs.Token.{Token, fed_tokens, option_tokens, token_of}
+use Rattle.lex_core.specs.declared.lexer.Fed.{Fed}
+use Rattle.lex_core.specs.declared.place.Place.{Place}
+use Rattle.lex_core.specs.declared.token.Tok.{Tok}
+use Rattle.lex_core.specs.declared.token.TokKind.{TokKind}
+use Rattle.lex_core.specs.declared.token.TokKind.TheVariants as kind
+use Rattle.lex_core.proofs.CallClauses.{extends_once}
+use Rattle.sig_table.specs.declared.code.Code.TheVariants.{UnclosedList}
+use Rattle.sexp_core.proofs.TokensRead.{length-unfinished, reads_list}
+use Rattle.sexp_core.specs.Reading.{IsUnclosed, Reads}
+use Rattle.sexp_core.specs.Sexp.{FlatToken, Sexp, map_flat}
+use Rattle.sexp_core.specs.Tokens.{flat_token, flat_tokens}
+use Rattle.script_core.specs.declared.checker.Checker.{Checker}
+use Rattle.script_core.specs.declared.refusal.Refusal.{Refusal}
+use Rattle.script_core.specs.declared.refusal.Stop.{Stop}
+use Rattle.script_core.specs.declared.refusal.Stop.TheVariants.{Refused, NoMemory}
+use Rattle.script_core.specs.Acceptance.{Refuses, Sofar, place_of}
+use Rattle.script_core.specs.Checking.{BreaksAmong, Follows, HasTaken, IfRefused, SofarCount, TokenBreaks}
+use Rattle.script_core.specs.Interned.{environment_of}
+use Rattle.script_core.specs.Text.{AllRead, Broken, BreaksAt, Faulty, GoesOn, HasLists, HasTokens, ListsEnd, Unfinished, Whole}
+use Rattle.script_core.proofs.FollowingTokens.{follows_grown, texts_of}
+use Rattle.script_core.proofs.TextLists.{length-flat_tokens, lists_from, one_token}
+use Rattle.script_core.proofs.TextTokens.{fault_stays, state_complete, tokens_from}
+
+-- a token that breaks a rule refuses the text, whatever comes after it
+token_refuses : (bytes : List ℕ) (ended : Bool) (before : List Token) (next : Token) (after : List Token) (fault : Option Place) (refusal : Refusal)
+    → HasTokens bytes (before ++ next ∷ after) ended fault → TokenBreaks before next refusal → Refuses bytes ended refusal
+token_refuses bytes ended before next after fault refusal has b = elim (b.fault) [
+  | inl broken ↦ record {
+    tokens = before ++ next ∷ after;
+    fault = fault;
+    lists = b.lists;
+    rest = Broken (place_of refusal);
+    before = b.lists;
+    commands = b.commands;
+    env = b.env;
+    has_tokens = has;
+    has_lists = BreaksAt (place_of refusal) before next after b.unfinished refl b.reads broken.0 broken.1;
+    steps = b.steps;
+    number = b.number;
+    first_fault = inr (refl, refl);
+  }
+  | inr command ↦ let reads = one_token before next (b.lists ++ command.0 ∷ []) [] (reads_list (flat_tokens before) b.lists b.unfinished (flat_token next) command.0 b.reads command.1 command.2) in
+      let from = lists_from after (before ++ next ∷ []) (b.lists ++ command.0 ∷ []) [] reads in record {
+        tokens = before ++ next ∷ after;
+        fault = fault;
+        lists = (b.lists ++ command.0 ∷ []) ++ from.more;
+        rest = from.rest;
+        before = b.lists;
+        commands = b.commands;
+        env = b.env;
+        has_tokens = has;
+        has_lists = subst (λ (ts : List Token). HasLists ts ((b.lists ++ command.0 ∷ []) ++ from.more) from.rest) (append_assoc before (next ∷ []) after) from.has_lists;
+        steps = b.steps;
+        number = b.number;
+        first_fault = inl (command.0, from.more, append_assoc b.lists (command.0 ∷ []) from.more, command.3);
+      }
+]
+
+pub refuses_among : (bytes : List ℕ) (ended : Bool) (tokens new later : List Token) (fault : Option Place) (refusal : Refusal)
+    → HasTokens bytes ((tokens ++ new) ++ later) ended fault → BreaksAmong tokens new refusal → Refuses bytes ended refusal
+refuses_among bytes ended tokens new later fault refusal has b =
+    let split : (tokens ++ new) ++ later ≡ (tokens ++ b.front) ++ b.next ∷ (b.back ++ later) =
+    ap (λ (ts : List Token). (tokens ++ ts) ++ later) b.spelled ∙ ap (λ (ts : List Token). ts ++ later) (sym (append_assoc tokens b.front (b.next ∷ b.back)))
+    ∙ append_assoc (tokens ++ b.front) (b.next ∷ b.back) later in
+    token_refuses bytes ended (tokens ++ b.front) b.next (b.back ++ later) fault refusal (subst (λ (ts : List Token). HasTokens bytes ts ended fault) split has) b.breaks
+
+-- a fault of the lexicon after tokens that broke no rule
+pub fault_refuses : (bytes : List ℕ) (ended : Bool) (tokens : List Token) (c : Checker) (place : Place) → HasTokens bytes tokens ended (Some place) → Follows tokens c
+    → Refuses bytes ended (record { command = c.count + 1; at = place.at; rule = place.code })
+fault_refuses bytes ended tokens c place has f = record {
+  tokens = tokens;
+  fault = Some place;
+  lists = f.lists;
+  rest = Unfinished (texts_of c.names c.builder.0);
+  before = f.lists;
+  commands = f.commands;
+  env = environment_of c.names c.scope;
+  has_tokens = has;
+  has_lists = AllRead (texts_of c.names c.builder.0) f.reads;
+  steps = f.steps;
+  number = ap (λ (n : ℕ). n + 1) f.counted;
+  first_fault = inr (refl, refl);
+}
+
+-- every lexeme has bytes, so there are no more tokens than bytes
+word_has_bytes : (k : TokKind) (bs : List ℕ) → WordSpells k bs → 1 ≤ length bs
+word_has_bytes k (b ∷ bs) h = omega arith
+word_has_bytes kind.Open [] h = absurd h
+word_has_bytes kind.Close [] h = absurd h
+word_has_bytes kind.Numeral [] h = cc
+word_has_bytes kind.Decimal [] h = absurd (omega (arith, ap length (h.2), length-append h.0 (46 ∷ h.1)))
+word_has_bytes kind.Hexadecimal [] h = let e = h.1 in cc
+word_has_bytes kind.Binary [] h = let e = h.1 in cc
+word_has_bytes kind.Str [] h = absurd h
+word_has_bytes kind.Symbol [] h = let e = h.0 in cc
+word_has_bytes kind.Reserved [] h = let e = h.0 in cc
+word_has_bytes kind.Keyword [] h = let e = h.1 in cc
+
+length-lexeme_tokens : (ps : List Lexeme) → AreLexemes ps → length (lexeme_tokens ps) ≤ length (joined_text ps)
+length-lexeme_tokens [] h = omega arith
+length-lexeme_tokens (WhiteSpace b ∷ ps) h = omega (arith, length-lexeme_tokens ps h.2, length-append (joined_text ps) (b ∷ []))
+length-lexeme_tokens (Comment bs ∷ ps) h = omega (arith, length-lexeme_tokens ps h.2, length-append (joined_text ps) (59 ∷ bs))
+length-lexeme_tokens (OpenParen ∷ ps) h = omega (arith, length-lexeme_tokens ps h.2, length-append (joined_text ps) (40 ∷ []), length-append (lexeme_tokens ps) (record { kind = kind.Open; name = []; at = length (joined_text ps) } ∷ []))
+length-lexeme_tokens (CloseParen ∷ ps) h = omega (arith, length-lexeme_tokens ps h.2, length-append (joined_text ps) (41 ∷ []), length-append (lexeme_tokens ps) (record { kind = kind.Close; name = []; at = length (joined_text ps) } ∷ []))
+length-lexeme_tokens (WordLexeme k bs ∷ ps) h = omega (arith, length-lexeme_tokens ps h.2, word_has_bytes k bs h.0, length-append (joined_text ps) bs, length-append (lexeme_tokens ps) (record { kind = k; name = bs; at = length (joined_text ps) } ∷ []))
+length-lexeme_tokens (StringLiteral name ∷ ps) h = omega (arith, length-lexeme_tokens ps h.2, length-append (joined_text ps) (34 ∷ (quotes_doubled name ++ 34 ∷ [])), length-append (lexeme_tokens ps) (record { kind = kind.Str; name = name; at = length (joined_text ps) } ∷ []))
+length-lexeme_tokens (QuotedSymbol name ∷ ps) h = omega (arith, length-lexeme_tokens ps h.2, length-append (joined_text ps) (124 ∷ (name ++ 124 ∷ [])), length-append (lexeme_tokens ps) (record { kind = kind.Symbol; name = name; at = length (joined_text ps) } ∷ []))
+
+pub few_tokens : (bytes : List ℕ) (tokens : List Token) (lexer : Option LexerState) → HasRead bytes tokens lexer → length tokens ≤ length bytes
+few_tokens bytes tokens None h = absurd h
+few_tokens bytes tokens (Some p) h =
+    omega (arith, ap length h.in_order, length-lexeme_tokens h.lexemes h.segmentation.whole, ap length h.segmentation.spelled, length-append (joined_text h.lexemes) (partial_text h.partial))
+
+pub few_unfinished : (tokens : List Token) (c : Checker) → Follows tokens c → length c.builder.0 ≤ length tokens
+few_unfinished tokens c f =
+    omega (arith, length-unfinished (flat_tokens tokens) f.lists (texts_of c.names c.builder.0) f.reads, length-map c.builder.0 (map_flat (token_of c.names)), length-flat_tokens tokens)

@@ -1,0 +1,12 @@
+pub mod SexpLists
+pub mod MappedSexps
+pub mod TokensFixSexps
+pub mod OpenListItems
+pub mod UnfinishedLists
+pub mod TokensTaken
+pub mod FirstSexp
+pub mod TokensRead
+pub mod FirstFault
+pub mod MappedReading
+pub mod BuilderReads
+pub mod MovedItems

@@ -1,0 +1,9 @@
+pub mod Sexp
+pub mod Tokens
+pub mod Reading
+pub mod Codes
+pub mod Items
+pub mod OpenLists
+pub mod Builder
+pub mod Parts
+pub mod Laws
