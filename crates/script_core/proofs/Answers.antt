@@ -1,5 +1,5 @@
 -- Every text is accepted or refused, never both, and in one way.
-use Rattle.std.proofs.Common.{◌≡◌, ◌≢◌, ℕ, ◌+◌, Bool, true, false, List, [], ◌∷◌, ◌++◌, length, Option, None, Some, refl, sym, ◌∙◌, ap, subst, ◌⊎◌, inl, inr}
+use Rattle.std.proofs.Common.{◌≡◌, ℕ, ◌+◌, Bool, true, false, List, [], ◌∷◌, length, Option, None, Some, refl, sym, ◌∙◌, ap, subst, ◌⊎◌, inl, inr}
 use Rattle.lex_core.specs.Token.{Token}
 use Rattle.lex_core.specs.declared.place.Place.{Place}
 use Rattle.sig_table.specs.declared.code.Code.{Code}
@@ -10,7 +10,7 @@ use Rattle.script_core.specs.declared.refusal.Refusal.{Refusal}
 use Rattle.script_core.specs.Command.{Command}
 use Rattle.script_core.specs.Steps.{Environment, empty, StepThrough}
 use Rattle.script_core.specs.Text.{AllRead, Broken, BreaksAt, HasLists, HasTokens, ListsEnd, Unfinished}
-use Rattle.script_core.specs.Acceptance.{CommandFault, FirstFault, Refuses, Sofar, SomeAnswer, TextFault, place_of}
+use Rattle.script_core.specs.Acceptance.{FirstFault, Refuses, Sofar, SomeAnswer, TextFault, place_of}
 use Rattle.script_core.proofs.TextTokens.{same_place, some_tokens, tokens_once}
 use Rattle.script_core.proofs.TextLists.{lists_once, some_lists}
 use Rattle.script_core.proofs.Stepping.{AllStep, Fails, Stepping, failures_meet, stepping, steps_no_fault, steps_once}

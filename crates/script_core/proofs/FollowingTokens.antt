@@ -1,11 +1,10 @@
 -- What one more token makes of a checker that has taken some tokens.
-use Rattle.std.proofs.Common.{◌≡◌, ℕ, ◌+◌, ◌<◌, ◌≤◌, false, List, [], ◌∷◌, ◌++◌, length, map, Option, None, Some, refl, sym, ◌∙◌, ap, subst, Bool, length-append, inl, inr, arith}
+use Rattle.std.proofs.Common.{◌≡◌, ℕ, ◌+◌, ◌<◌, ◌≤◌, false, List, [], ◌∷◌, ◌++◌, length, map, Option, None, refl, sym, ◌∙◌, ap, subst, Bool, length-append, inl, inr, arith}
 use Rattle.std.proofs.lemmas.List.{map-append}
 use Rattle.lex_core.proofs.CallClauses.{number_kept, text_kept, token_kept}
 use Rattle.lex_core.specs.LexerCalls.{ExtendsTable, HasRead}
 use Rattle.lex_core.specs.LexerSteps.{LexerState}
 use Rattle.lex_core.specs.Token.{Token, token_of}
-use Rattle.lex_core.specs.declared.place.Place.{Place}
 use Rattle.lex_core.specs.declared.token.Tok.{Tok}
 use Rattle.lex_core.specs.declared.token.TokKind.{TokKind}
 use Rattle.lex_core.specs.declared.token.TokKind.TheVariants as kind
@@ -15,7 +14,7 @@ use Rattle.sexp_core.proofs.MappedSexps.{flat-map_sexp, map_flat-flat_of}
 use Rattle.sexp_core.proofs.TokensRead.{reads_list, reads_more, reads_nothing}
 use Rattle.sexp_core.specs.Builder.{State}
 use Rattle.sexp_core.specs.Reading.{IsList, IsUnfinished, Reads, TreeFault}
-use Rattle.sexp_core.specs.Sexp.{FlatToken, Opening, Closing, Word, Sexp, atom, list, flat, map_flat, map_sexp}
+use Rattle.sexp_core.specs.Sexp.{FlatToken, Opening, Closing, Word, Sexp, atom, list, flat, map_flat}
 use Rattle.sexp_core.specs.Tokens.{flat_of, flat_tok, flat_token, flat_tokens}
 use Rattle.script_core.specs.declared.checker.Checker.{Checker}
 use Rattle.script_core.specs.declared.refusal.Refusal.{Refusal}

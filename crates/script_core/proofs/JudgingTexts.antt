@@ -1,43 +1,46 @@
--- From a checker that took the bytes of a text to what is said of the text.
-use Rattle.std.proofs.Common.{◌≡◌, ℕ, ◌+◌, ◌<◌, Bool, true, false, List, [], ◌∷◌, ◌++◌, length, take, drop, get_or, Some, sym, ◌∙◌, ap, subst}
-use Rattle.std.proofs.lemmas.List.{take_more, take-append-drop}
+-- From a checker that takes bytes to what is said of the text.
+use Rattle.std.proofs.Common.{◌≡◌, ℕ, ◌+◌, ◌<◌, ◌≤◌, ◌^◌, false, List, [], ◌∷◌, ◌++◌, length, take, drop, get_or, Err, sym, ◌∙◌, ap, subst, append_assoc, append-nil, arith}
+use Rattle.std.proofs.lemmas.List.{length-append, length-take-le, take_more, take-append-drop}
 use Rattle.script_core.specs.declared.checker.Checker.{Checker}
-use Rattle.script_core.specs.declared.refusal.Refusal.{Refusal}
 use Rattle.script_core.specs.declared.refusal.Stop.{Stop}
 use Rattle.script_core.specs.declared.refusal.Stop.TheVariants.{Refused, NoMemory}
 use Rattle.script_core.specs.Acceptance.{Refuses}
-use Rattle.script_core.specs.Checking.{HasTaken, IfRefused, SofarCount}
-use Rattle.script_core.specs.Judging.{JudgesAs}
-use Rattle.script_core.proofs.TakingBytes.{taken_sofar}
+use Rattle.script_core.specs.Checking.{HasTaken, IfRefused, RefusesByte, RefusesBytes, TakesByte, TakesBytes}
+use Rattle.script_core.specs.Judging.{Answers}
 
--- a byte of the text is the first that shows a fault
-pub byte_judged : (all : List ℕ) (i : ℕ) (ended : Bool) (c : Checker) (count : ℕ) (stop : Stop) → i < length all → HasTaken (take i all) c
-    → IfRefused stop (λ refusal. (bytes more : List ℕ) (ended : Bool) → HasTaken bytes c → Refuses ((bytes ++ get_or all i 0 ∷ []) ++ more) ended refusal)
-    → IfRefused stop (λ refusal. refusal.command ≡ count + 1) → JudgesAs all ended count (Some stop)
-byte_judged all i ended c count NoMemory inside h refuses number = tt
-byte_judged all i ended c count (Refused refusal) inside h refuses number =
-    let whole : (take i all ++ get_or all i 0 ∷ []) ++ drop (i + 1) all ≡ all =
-    ap (λ (xs : List ℕ). xs ++ drop (i + 1) all) (sym (take_more all i 0 inside)) ∙ take-append-drop (i + 1) all in
-    record { refuses = subst (λ (xs : List ℕ). Refuses xs ended refusal) whole (refuses (take i all) (drop (i + 1) all) ended h); counted = number }
+pub takes_nothing : (c : Checker) → TakesBytes c [] c
+takes_nothing c bytes h = subst (λ (xs : List ℕ). HasTaken xs c) (sym (append-nil bytes)) h
 
--- all bytes were taken, and the end was not seen
-pub open_judged : (all read : List ℕ) (ended : Bool) (c : Checker) → read ≡ all → ended ≡ false → HasTaken read c → SofarCount all ended c.count
-open_judged all read ended c same not_ended h =
-    subst (λ (e : Bool). SofarCount all e c.count) (sym not_ended) (subst (λ (xs : List ℕ). SofarCount xs false c.count) same (taken_sofar read c h))
+-- a byte of the chunk is within the bytes that may be given
+pub room_left : (bytes piece : List ℕ) (i : ℕ) → i < length piece → length bytes + length piece ≤ 2 ^ 30 → length (bytes ++ take i piece) < 2 ^ 30
+room_left bytes piece i inside few = omega (arith, length-append bytes (take i piece), length-take-le i piece (omega (arith, inside)), inside, few)
 
--- all bytes were taken, and the end too
-pub end_judged : (all read : List ℕ) (ended : Bool) (count : ℕ) → read ≡ all → ended ≡ true → SofarCount read true count → SofarCount all ended count
-end_judged all read ended count same is_ended h = subst (λ (e : Bool). SofarCount all e count) (sym is_ended) (subst (λ (xs : List ℕ). SofarCount xs true count) same h)
+-- one more byte of the chunk
+pub takes_more : (old c new : Checker) (piece : List ℕ) (i : ℕ) → i < length piece → TakesBytes old (take i piece) c → TakesByte c (get_or piece i 0) new
+    → TakesBytes old (take (i + 1) piece) new
+takes_more old c new piece i inside before next bytes h =
+    let same : (bytes ++ take i piece) ++ get_or piece i 0 ∷ [] ≡ bytes ++ take (i + 1) piece =
+    append_assoc bytes (take i piece) (get_or piece i 0 ∷ []) ∙ ap (λ (xs : List ℕ). bytes ++ xs) (sym (take_more piece i 0 inside)) in
+    subst (λ (xs : List ℕ). HasTaken xs new) same (next (bytes ++ take i piece) (before bytes h))
 
--- the end shows a fault
-pub end_refused_judged : (all read : List ℕ) (ended : Bool) (c : Checker) (count : ℕ) (stop : Stop) → read ≡ all → ended ≡ true → HasTaken read c
-    → IfRefused stop (λ refusal. (bytes : List ℕ) → HasTaken bytes c → Refuses bytes true refusal) → IfRefused stop (λ refusal. refusal.command ≡ count + 1) → JudgesAs all ended count (Some stop)
-end_refused_judged all read ended c count NoMemory same is_ended h refuses number = tt
-end_refused_judged all read ended c count (Refused refusal) same is_ended h refuses number = record {
-  refuses = subst (λ (e : Bool). Refuses all e refusal) (sym is_ended) (subst (λ (xs : List ℕ). Refuses xs true refusal) same (refuses read h));
+-- a byte of the chunk is the first that shows a fault
+pub byte_refused : (old c : Checker) (piece : List ℕ) (i : ℕ) (stop : Stop) → i < length piece → TakesBytes old (take i piece) c
+    → IfRefused stop (RefusesByte c (get_or piece i 0)) → IfRefused stop (RefusesBytes old piece)
+byte_refused old c piece i NoMemory inside before refuses = tt
+byte_refused old c piece i (Refused refusal) inside before refuses = λ bytes more ended h.
+    let whole : take i piece ++ get_or piece i 0 ∷ drop (i + 1) piece ≡ piece =
+    sym (append_assoc (take i piece) (get_or piece i 0 ∷ []) (drop (i + 1) piece)) ∙ ap (λ (xs : List ℕ). xs ++ drop (i + 1) piece) (sym (take_more piece i 0 inside)) ∙ take-append-drop (i + 1) piece in
+    let split : ((bytes ++ take i piece) ++ get_or piece i 0 ∷ []) ++ (drop (i + 1) piece ++ more) ≡ (bytes ++ piece) ++ more =
+    append_assoc (bytes ++ take i piece) (get_or piece i 0 ∷ []) (drop (i + 1) piece ++ more)
+    ∙ sym (append_assoc (bytes ++ take i piece) (get_or piece i 0 ∷ drop (i + 1) piece) more)
+    ∙ ap (λ (xs : List ℕ). xs ++ more) (append_assoc bytes (take i piece) (get_or piece i 0 ∷ drop (i + 1) piece) ∙ ap (λ (xs : List ℕ). bytes ++ xs) whole) in
+    subst (λ (xs : List ℕ). Refuses xs ended refusal) split (refuses (bytes ++ take i piece) (drop (i + 1) piece ++ more) ended (before bytes h))
+
+-- the answer to a chunk that is refused
+pub feed_refused : (A : Type 0) (bytes piece : List ℕ) (c : Checker) (count : ℕ) (stop : Stop) → HasTaken bytes c
+    → IfRefused stop (RefusesBytes c piece) → IfRefused stop (λ refusal. refusal.command ≡ count + 1) → Answers {A = A} (bytes ++ piece) false count (Err stop)
+feed_refused A bytes piece c count NoMemory h refuses number = tt
+feed_refused A bytes piece c count (Refused refusal) h refuses number = record {
+  refuses = subst (λ (xs : List ℕ). Refuses xs false refusal) (append-nil (bytes ++ piece)) (refuses bytes [] false h);
   counted = number;
 }
-
--- one more byte of the text
-pub read_more : (all : List ℕ) (i : ℕ) (c : Checker) → i < length all → HasTaken (take i all ++ get_or all i 0 ∷ []) c → HasTaken (take (i + 1) all) c
-read_more all i c inside h = subst (λ (xs : List ℕ). HasTaken xs c) (sym (take_more all i 0 inside)) h

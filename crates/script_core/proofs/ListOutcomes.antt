@@ -1,5 +1,5 @@
 -- What a list does that is read as a command, or as none.
-use Rattle.std.proofs.Common.{◌≡◌, List, ℕ, Option, None, Some, Result, Ok, Err, refl, sym, ◌∙◌, subst, ◌⊎◌, inl, inr}
+use Rattle.std.proofs.Common.{◌≡◌, Option, None, Some, Result, Ok, Err, refl, sym, ◌∙◌, subst, ◌⊎◌, inl, inr}
 use Rattle.std.specs.Prelude.{IfErr, OnOk}
 use Rattle.lex_core.specs.Token.{Token}
 use Rattle.sig_table.specs.declared.code.Code.{Code}
@@ -7,7 +7,6 @@ use Rattle.sig_table.specs.declared.code.Code.TheVariants.{UnsupportedForm}
 use Rattle.sexp_core.specs.Sexp.{Sexp}
 use Rattle.script_core.specs.declared.scope.StepError.{StepError}
 use Rattle.script_core.specs.declared.scope.StepError.TheVariants.{Broken, NoMemory}
-use Rattle.script_core.specs.Acceptance.{IsUnsupported}
 use Rattle.script_core.specs.Command.{Command, IsCommand}
 use Rattle.script_core.specs.Interned.{IsListError, IsStepError, ListSteps}
 use Rattle.script_core.specs.Reading.{command_of}

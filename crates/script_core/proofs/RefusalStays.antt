@@ -1,10 +1,10 @@
 -- A refusal that is seen before the end stays, whatever comes after.
-use Rattle.std.proofs.Common.{◌≡◌, ℕ, ◌+◌, Bool, true, false, List, [], ◌∷◌, ◌++◌, length, Option, None, Some, refl, sym, ◌∙◌, ap, subst, append_assoc, append-nil, ◌⊎◌, inl, inr}
+use Rattle.std.proofs.Common.{◌≡◌, ℕ, ◌+◌, Bool, true, false, List, [], ◌∷◌, ◌++◌, length, Option, Some, refl, sym, ◌∙◌, ap, subst, append_assoc, append-nil, inl, inr}
 use Rattle.lex_core.specs.Token.{Token}
 use Rattle.lex_core.specs.declared.place.Place.{Place}
 use Rattle.sexp_core.specs.Sexp.{Sexp}
 use Rattle.script_core.specs.declared.refusal.Refusal.{Refusal}
-use Rattle.script_core.specs.Acceptance.{CommandFault, FirstFault, Refuses, TextFault, place_of}
+use Rattle.script_core.specs.Acceptance.{FirstFault, Refuses, TextFault, place_of}
 use Rattle.script_core.specs.Command.{Command}
 use Rattle.script_core.specs.Steps.{Environment, StepThrough, empty}
 use Rattle.script_core.specs.Text.{AllRead, Broken, BreaksAt, Faulty, GoesOn, HasLists, HasTokens, ListsEnd, Unfinished, Whole}

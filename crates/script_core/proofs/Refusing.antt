@@ -1,36 +1,26 @@
 -- From the first token that breaks a rule, or the fault of the text, to the refusal of the whole text.
-use Rattle.std.proofs.Common.{◌≡◌, ℕ, ◌+◌, ◌*◌, ◌<◌, ◌≤◌, ◌^◌, Bool, true, false, List, [], ◌∷◌, ◌++◌, length, map, Option, None, Some, Result, Ok, Err, refl, sym, ◌∙◌, ap, subst, append_assoc, append-nil, length-append, ◌⊎◌, inl, inr, arith}
-use Rattle.std.specs.Prelude.{IfErr, OnOk}
+use Rattle.std.proofs.Common.{◌≡◌, ℕ, ◌+◌, ◌≤◌, Bool, List, [], ◌∷◌, ◌++◌, length, Option, None, Some, refl, sym, ◌∙◌, ap, subst, append_assoc, length-append, inl, inr, arith}
 use Rattle.std.proofs.lemmas.List.{length-map}
-use Rattle.lex_core.specs.Faults.{ShowsFault}
-use Rattle.lex_core.specs.Lexeme.{AreLexemes, CloseParen, Comment, Lexeme, Lexes, OpenParen, QuotedSymbol, StringLiteral, WhiteSpace, Word as WordLexeme, joined_text, lexeme_tokens, quotes_doubled}
-use Rattle.lex_core.specs.LexerCalls.{ExtendsTable, FaultsAtByte, FaultsAtEnd, HasRead, IfFault, KeepsTexts, LexesAtEnd, ReadsByte}
+use Rattle.lex_core.specs.Lexeme.{AreLexemes, CloseParen, Comment, Lexeme, OpenParen, QuotedSymbol, StringLiteral, WhiteSpace, Word as WordLexeme, joined_text, lexeme_tokens, quotes_doubled}
+use Rattle.lex_core.specs.LexerCalls.{HasRead}
 use Rattle.lex_core.specs.LexerSteps.{LexerState}
 use Rattle.lex_core.specs.Segmentation.{partial_text}
 use Rattle.lex_core.specs.Spelling.{WordSpells}
-use Rattle.lex_core.specs.Token.{Token, fed_tokens, option_tokens, token_of}
-use Rattle.lex_core.specs.declared.lexer.Fed.{Fed}
+use Rattle.lex_core.specs.Token.{Token, token_of}
 use Rattle.lex_core.specs.declared.place.Place.{Place}
-use Rattle.lex_core.specs.declared.token.Tok.{Tok}
 use Rattle.lex_core.specs.declared.token.TokKind.{TokKind}
 use Rattle.lex_core.specs.declared.token.TokKind.TheVariants as kind
-use Rattle.lex_core.proofs.CallClauses.{extends_once}
-use Rattle.sig_table.specs.declared.code.Code.TheVariants.{UnclosedList}
 use Rattle.sexp_core.proofs.TokensRead.{length-unfinished, reads_list}
-use Rattle.sexp_core.specs.Reading.{IsUnclosed, Reads}
-use Rattle.sexp_core.specs.Sexp.{FlatToken, Sexp, map_flat}
+use Rattle.sexp_core.specs.Sexp.{map_flat}
 use Rattle.sexp_core.specs.Tokens.{flat_token, flat_tokens}
 use Rattle.script_core.specs.declared.checker.Checker.{Checker}
 use Rattle.script_core.specs.declared.refusal.Refusal.{Refusal}
-use Rattle.script_core.specs.declared.refusal.Stop.{Stop}
-use Rattle.script_core.specs.declared.refusal.Stop.TheVariants.{Refused, NoMemory}
-use Rattle.script_core.specs.Acceptance.{Refuses, Sofar, place_of}
-use Rattle.script_core.specs.Checking.{BreaksAmong, Follows, HasTaken, IfRefused, SofarCount, TokenBreaks}
+use Rattle.script_core.specs.Acceptance.{Refuses, place_of}
+use Rattle.script_core.specs.Checking.{BreaksAmong, Follows, TokenBreaks}
 use Rattle.script_core.specs.Interned.{environment_of}
-use Rattle.script_core.specs.Text.{AllRead, Broken, BreaksAt, Faulty, GoesOn, HasLists, HasTokens, ListsEnd, Unfinished, Whole}
-use Rattle.script_core.proofs.FollowingTokens.{follows_grown, texts_of}
+use Rattle.script_core.specs.Text.{AllRead, Broken, BreaksAt, HasLists, HasTokens, Unfinished}
+use Rattle.script_core.proofs.FollowingTokens.{texts_of}
 use Rattle.script_core.proofs.TextLists.{length-flat_tokens, lists_from, one_token}
-use Rattle.script_core.proofs.TextTokens.{fault_stays, state_complete, tokens_from}
 
 -- a token that breaks a rule refuses the text, whatever comes after it
 token_refuses : (bytes : List ℕ) (ended : Bool) (before : List Token) (next : Token) (after : List Token) (fault : Option Place) (refusal : Refusal)

@@ -1,5 +1,5 @@
 -- What one more byte, or the end, makes of a checker that has taken some bytes.
-use Rattle.std.proofs.Common.{◌≡◌, ℕ, ◌+◌, ◌*◌, ◌≤◌, Bool, true, false, List, [], ◌∷◌, ◌++◌, length, Option, None, Some, Result, Ok, Err, refl, sym, ◌∙◌, ap, subst, append_assoc, append-nil, length-append, inl, inr, arith}
+use Rattle.std.proofs.Common.{◌≡◌, ℕ, ◌+◌, ◌≤◌, Bool, true, false, List, [], ◌∷◌, ◌++◌, length, Option, None, Some, Result, Ok, Err, refl, sym, ap, subst, append-nil, length-append, inr, arith}
 use Rattle.std.specs.Prelude.{IfErr, OnOk}
 use Rattle.lex_core.proofs.CallClauses.{extends_once}
 use Rattle.lex_core.specs.LexerCalls.{FaultsAtByte, FaultsAtEnd, HasRead, KeepsTexts, LexesAtEnd, ReadsByte}
@@ -10,7 +10,6 @@ use Rattle.lex_core.specs.declared.place.Place.{Place}
 use Rattle.lex_core.specs.declared.token.Tok.{Tok}
 use Rattle.sig_table.specs.declared.code.Code.TheVariants.{UnclosedList}
 use Rattle.sexp_core.proofs.MappedReading.{unclosed-map}
-use Rattle.sexp_core.specs.Builder.{State}
 use Rattle.sexp_core.specs.Reading.{IsUnclosed, Reads}
 use Rattle.sexp_core.specs.Sexp.{FlatToken}
 use Rattle.sexp_core.specs.Tokens.{flat_tokens}
@@ -19,8 +18,8 @@ use Rattle.script_core.specs.declared.checker.Checker.{Checker}
 use Rattle.script_core.specs.declared.refusal.Refusal.{Refusal}
 use Rattle.script_core.specs.declared.refusal.Stop.{Stop}
 use Rattle.script_core.specs.declared.refusal.Stop.TheVariants.{Refused, NoMemory}
-use Rattle.script_core.specs.Acceptance.{Refuses, Sofar, TextFault, place_of}
-use Rattle.script_core.specs.Checking.{BreaksAmong, Follows, HasTaken, IfRefused, SofarCount, TokenBreaks}
+use Rattle.script_core.specs.Acceptance.{Refuses}
+use Rattle.script_core.specs.Checking.{BreaksAmong, Follows, HasTaken, IfRefused, SofarCount}
 use Rattle.script_core.specs.Interned.{environment_of}
 use Rattle.script_core.specs.Text.{AllRead, Faulty, GoesOn, HasTokens, Unfinished, Whole}
 use Rattle.script_core.proofs.FollowingTokens.{follows_grown, texts_of}

@@ -1,12 +1,11 @@
 -- The lists of some tokens are fixed, and those of more tokens begin with them.
-use Rattle.std.proofs.Common.{◌≡◌, ℕ, suc, List, [], ◌∷◌, ◌++◌, length, refl, sym, ◌∙◌, ap, subst, append_assoc, append-nil, arith}
+use Rattle.std.proofs.Common.{◌≡◌, suc, List, [], ◌∷◌, ◌++◌, length, refl, sym, ◌∙◌, ap, subst, append_assoc, append-nil, arith}
 use Rattle.sig_table.specs.declared.code.Code.{Code}
 use Rattle.lex_core.specs.Token.{Token}
-use Rattle.lex_core.specs.declared.place.Place.{Place}
 use Rattle.sexp_core.proofs.FirstFault.{reads_no_break, breaks_once}
 use Rattle.sexp_core.proofs.TokensRead.{Next, breaks, goes_on, completes, next_token, reads_list, reads_more, reads_nothing, reads_once}
-use Rattle.sexp_core.specs.Reading.{BreaksIn, IsList, IsUnfinished, Reads, TreeFault}
-use Rattle.sexp_core.specs.Sexp.{FlatToken, Sexp, flat}
+use Rattle.sexp_core.specs.Reading.{BreaksIn, Reads, TreeFault}
+use Rattle.sexp_core.specs.Sexp.{FlatToken, Sexp}
 use Rattle.sexp_core.specs.Tokens.{flat_token, flat_tokens}
 use Rattle.script_core.specs.Text.{AllRead, Broken, BreaksAt, HasLists, ListsEnd, Unfinished}
 use Rattle.script_core.proofs.TextTokens.{same_place}

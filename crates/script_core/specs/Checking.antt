@@ -1,8 +1,7 @@
 -- Where a checker stands after the bytes that it took.
-use Rattle.std.specs.Prelude.{◌≡◌, ◌⊎◌, ℕ, ◌+◌, ◌*◌, ◌≤◌, Bool, true, List, [], ◌∷◌, ◌++◌, length, map, Option, Some, None, Result, Ok, Err}
+use Rattle.std.specs.Prelude.{◌≡◌, ◌⊎◌, ℕ, ◌+◌, ◌*◌, ◌≤◌, Bool, true, List, [], ◌∷◌, ◌++◌, length, map, None}
 use Rattle.lex_core.specs.LexerCalls.{HasRead}
-use Rattle.lex_core.specs.Token.{Token, token_of, option_tokens}
-use Rattle.lex_core.specs.declared.place.Place.{Place}
+use Rattle.lex_core.specs.Token.{Token, token_of}
 use Rattle.lex_core.specs.declared.token.Tok.{Tok}
 use Rattle.sexp_core.specs.Reading.{IsList, Reads, TreeFault}
 use Rattle.sexp_core.specs.Sexp.{FlatToken, Sexp, flat, map_flat}
@@ -84,6 +83,14 @@ TakesByte old byte checker = (bytes : List ℕ) → HasTaken bytes old → HasTa
 -- with this byte the bytes are refused, whatever comes after it
 abbrev pub RefusesByte : Checker → ℕ → Refusal → Type 0
 RefusesByte old byte refusal = (bytes more : List ℕ) (ended : Bool) → HasTaken bytes old → Refuses ((bytes ++ byte ∷ []) ++ more) ended refusal
+
+-- with these bytes more, the checker stands here
+abbrev pub TakesBytes : Checker → List ℕ → Checker → Type 0
+TakesBytes old piece checker = (bytes : List ℕ) → HasTaken bytes old → HasTaken (bytes ++ piece) checker
+
+-- with these bytes the text is refused, whatever comes after them
+abbrev pub RefusesBytes : Checker → List ℕ → Refusal → Type 0
+RefusesBytes old piece refusal = (bytes more : List ℕ) (ended : Bool) → HasTaken bytes old → Refuses ((bytes ++ piece) ++ more) ended refusal
 
 -- the whole text is accepted, with this number of commands
 abbrev pub AcceptsText : Checker → ℕ → Type 0

@@ -1,11 +1,10 @@
 -- The commands that are built, and which s-expression is which command (SMT-LIB 2.6, sections 3.6 and 3.9).
-use Rattle.std.specs.Prelude.{◌≡◌, ℕ, Bool, true, false, not, ◌&&◌, ◌||◌, ◌==◌, List, [], ◌∷◌, IsTrue, codes, if◌then◌else◌}
+use Rattle.std.specs.Prelude.{◌≡◌, ℕ, Bool, false, not, ◌&&◌, ◌||◌, ◌==◌, List, [], ◌∷◌, IsTrue, codes}
 use Rattle.std.specs.List.{list_any, list_all}
 use Rattle.std.specs.Str.{bytes_eq}
 use Rattle.std.specs.Char.{is_ascii_digit, is_ascii_alphanumeric}
 use Rattle.lex_core.specs.Spelling.{is_reserved, is_symbol_word}
 use Rattle.lex_core.specs.Token.{Token}
-use Rattle.lex_core.specs.declared.token.TokKind.{TokKind}
 use Rattle.lex_core.specs.declared.token.TokKind.TheVariants.{Symbol, Reserved}
 use Rattle.sexp_core.specs.Sexp.{Sexp, Sexps, atom, list, nil, cons}
 

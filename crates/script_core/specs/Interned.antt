@@ -1,10 +1,9 @@
 -- What the code keeps by number, seen by the texts of its table of names.
-use Rattle.std.specs.Prelude.{◌≡◌, ℕ, ◌<◌, List, [], ◌∷◌, length, map, slice_index_or, All, Option, None, Some}
+use Rattle.std.specs.Prelude.{ℕ, ◌<◌, List, [], ◌∷◌, length, map, slice_index_or}
 use Rattle.lex_core.specs.Token.{Token, token_of}
-use Rattle.lex_core.specs.declared.place.Place.{Place}
 use Rattle.lex_core.specs.declared.token.Tok.{Tok}
 use Rattle.sig_table.specs.declared.code.Code.TheVariants.{UnsupportedForm}
-use Rattle.sexp_core.specs.Sexp.{Sexp, Sexps, FlatToken, Opening, Closing, Word, flat_all, map_sexp, map_sexps}
+use Rattle.sexp_core.specs.Sexp.{Sexp, Sexps, FlatToken, Opening, Closing, Word, map_sexp, map_sexps}
 use Rattle.script_core.specs.declared.command.ParsedCommand.{ParsedCommand}
 use Rattle.script_core.specs.declared.command.ParsedCommand.TheVariants as parsed
 use Rattle.script_core.specs.declared.scope.Scope.{Scope}

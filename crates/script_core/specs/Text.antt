@@ -1,5 +1,5 @@
 -- A text as tokens and as lists, up to its end or to its first fault.
-use Rattle.std.specs.Prelude.{◌≡◌, ℕ, Bool, true, false, List, [], ◌∷◌, ◌++◌, Option, Some, None}
+use Rattle.std.specs.Prelude.{◌≡◌, ℕ, Bool, true, false, List, ◌∷◌, ◌++◌, Option, Some, None}
 use Rattle.lex_core.specs.Faults.{ShowsFault}
 use Rattle.lex_core.specs.Lexeme.{Lexeme, Lexes, lexeme_tokens}
 use Rattle.lex_core.specs.Segmentation.{IsSegmentation, PartialLexeme}

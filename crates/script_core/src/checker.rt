@@ -4,7 +4,7 @@ ghost use Rattle.sexp_core.specs.Sexp.{flat};
 ghost use Rattle.script_core.specs.Command.{first_byte};
 ghost use Rattle.script_core.specs.Interned.{AllNamed, AreInterned, sexp_of};
 ghost use Rattle.script_core.specs.Checking.{AcceptsText, BreaksList, BreaksWith, BreaksWithin, Follows, HasTaken, IfRefused};
-ghost use Rattle.script_core.specs.Checking.{RefusesByte, RefusesText, TakesByte, TakesList, TakesTokens};
+ghost use Rattle.script_core.specs.Checking.{RefusesByte, RefusesBytes, RefusesText, TakesByte, TakesBytes, TakesList, TakesTokens};
 
 use super::refusal::{Refusal, Stop};
 use super::scope::{Scope, StepError, take_list};
@@ -164,6 +164,19 @@ impl Checker {
                 Err(stop) => Err(stop),
             },
         }
+    }
+
+    /// Takes bytes one after the other, up to the first that is refused.
+    pub fn take_bytes(&mut self, piece: &[u8]) -> Result<(), Stop>
+        requires taken { (bytes : List ℕ) × HasTaken bytes self.old × (length bytes + length piece.now ≤ 2 ^ 30) }
+        ensures ok { OnOk result (TakesBytes self.old piece.now self.new) }
+        ensures refused { IfErr result (λ e. IfRefused e (RefusesBytes self.old piece.now)) }
+        ensures number { IfErr result (λ e. IfRefused e (λ refusal. refusal.command ≡ self.new.count + 1)) }
+    {
+        for byte in piece {
+            self.take_byte(*byte)?;
+        }
+        Ok(())
     }
 
     /// Takes the end. `Refused` comes exactly where the whole text is refused.

@@ -1,3 +1,5 @@
+ghost use Rattle.std.specs.Prelude.{◌≡◌, false};
+
 use super::*;
 use sig_table::Code;
 use std::alloc::{AllocError, Global};
@@ -22,10 +24,12 @@ fn answer(
     if let Err(stop) = session.feed(back) {
         return Ok((Err(stop), session.count()));
     }
-    let answer = session.finish();
     assert_eq!(rt; session.taken() as usize, text.len());
-    assert_eq!(rt; session.finish(), answer);
-    Ok((answer, session.count()))
+    if let Err(stop) = session.finish() {
+        assert_eq!(rt; session.finish(), Err(stop));
+        return Ok((Err(stop), session.count()));
+    }
+    Ok((Ok(()), session.count()))
 }
 
 fn refused(command: u32, at: u32, rule: Code) -> Result<(), Stop> {
@@ -126,7 +130,9 @@ fn refuses_lists_too_deep(rt: HostRuntime) -> Result<(), Fail> {
 }
 
 // Feeds the text byte by byte, and finishes.
-fn bytewise(rt: &impl Abort, mut session: Session, text: &[u8]) -> Result<(), Stop> {
+fn bytewise(rt: &impl Abort, mut session: Session, text: &[u8]) -> Result<(), Stop>
+    requires { session.finished ≡ false }
+{
     assert!(rt; text.len() < 5000);
     for byte in text {
         assert!(rt; session.taken() < 5000);

@@ -1,0 +1,3 @@
+pub mod LevelsInOneList
+pub mod DistinctNamesKept
+pub mod CallLaws

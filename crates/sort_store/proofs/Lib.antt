@@ -1,0 +1,9 @@
+pub mod ArgumentLists
+pub mod Depths
+pub mod InternedSorts
+pub mod NewEntries
+pub mod GrownStores
+pub mod KeyLookup
+pub mod KeyedStores
+pub mod InstanceLaws
+pub mod MatchingLaws

@@ -1,0 +1,10 @@
+pub mod Tree
+pub mod Coded
+pub mod Size
+pub mod Depth
+pub mod Measured
+pub mod Interned
+pub mod SortKeys
+pub mod Instance
+pub mod Binding
+pub mod FitAnswers
