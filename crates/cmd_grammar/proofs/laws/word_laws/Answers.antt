@@ -1,0 +1,54 @@
+use Rattle.std.proofs.Common.{refl}
+use Rattle.cmd_grammar.proofs.laws.word_laws.Goals as goal
+
+pub returns-clause-syntax : goal.returns-clause-syntax
+returns-clause-syntax c = record {
+  annotation = refl;
+  underscore = refl;
+  as_word = refl;
+  exists = refl;
+  forall = refl;
+  let_word = refl;
+  match_word = refl;
+  par = refl;
+  named = refl;
+  pattern = refl;
+  global_declarations = refl;
+  true_symbol = refl;
+  false_symbol = refl;
+  not_symbol = refl;
+}
+
+pub returns-clause-commands : goal.returns-clause-commands
+returns-clause-commands c = record {
+  assert = refl;
+  check_sat = refl;
+  check_sat_assuming = refl;
+  declare_const = refl;
+  declare_datatype = refl;
+  declare_datatypes = refl;
+  declare_fun = refl;
+  declare_sort = refl;
+  define_fun = refl;
+  define_fun_rec = refl;
+  define_funs_rec = refl;
+  define_sort = refl;
+  echo = refl;
+  exit = refl;
+  get_assertions = refl;
+  get_assignment = refl;
+  get_info = refl;
+  get_model = refl;
+  get_option = refl;
+  get_proof = refl;
+  get_unsat_assumptions = refl;
+  get_unsat_core = refl;
+  get_value = refl;
+  pop = refl;
+  push = refl;
+  reset = refl;
+  reset_assertions = refl;
+  set_info = refl;
+  set_logic = refl;
+  set_option = refl;
+}

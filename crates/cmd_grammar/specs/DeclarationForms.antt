@@ -1,0 +1,115 @@
+-- The form of the declarations and literals in commands: their parts, where any tree is a sort or a term.
+use Rattle.std.specs.Prelude.{Bool, true, false, not, ◌&&◌, ◌||◌, ◌==◌, Option, Some, None, is_some}
+use Rattle.lex_core.specs.declared.token.Tok.{Tok}
+use Rattle.sexp_core.specs.Sexp.{Sexp, atom, list, Sexps, nil, cons}
+use Rattle.sexp_core.specs.declared.parts.Part.{Part}
+use Rattle.sexp_core.specs.declared.parts.Part.TheVariants as part
+use Rattle.cmd_grammar.specs.declared.words.TheConstants.{PAR, NOT, TRUE, FALSE, GLOBAL_DECLARATIONS}
+use Rattle.cmd_grammar.specs.Words.{is_symbol, is_numeral, is_reserved, is_keyword, is_key}
+use Rattle.cmd_grammar.specs.FirstParts.{◌>>=◌, any_first, token_first, symbol_first, list_first, is_empty, guard}
+use Rattle.cmd_grammar.specs.TermForms.{are_symbols, are_named, value_first}
+
+-- symbol numeral
+abbrev pub sort_dec_parts : Sexps Tok → Option (Tok × Tok)
+sort_dec_parts ts = do
+  n ← symbol_first ts
+  a ← token_first n.1
+  _ ← guard (is_numeral a.0)
+  _ ← guard (is_empty a.1)
+  Some (n.0, a.0)
+
+-- each of some trees is ( symbol numeral )
+abbrev pub are_sort_decs : Sexps Tok → Bool
+are_sort_decs nil = true
+are_sort_decs (cons (atom t) ts) = false
+are_sort_decs (cons (list at us) ts) = is_some (sort_dec_parts us) && are_sort_decs ts
+
+-- symbol selector*
+abbrev pub constructor_dec_parts : Sexps Tok → Option (Tok × Sexps Tok)
+constructor_dec_parts ts = do
+  n ← symbol_first ts
+  _ ← guard (are_named n.1)
+  Some (n.0, n.1)
+
+-- each of some trees is ( symbol selector* )
+abbrev pub are_constructor_decs : Sexps Tok → Bool
+are_constructor_decs nil = true
+are_constructor_decs (cons (atom t) ts) = false
+are_constructor_decs (cons (list at us) ts) = is_some (constructor_dec_parts us) && are_constructor_decs ts
+
+-- par ( symbol+ ) ( con_dec+ )
+abbrev pub parametric_parts : Sexps Tok → Option (Sexps Tok × Sexps Tok)
+parametric_parts ts = do
+  w ← token_first ts
+  _ ← guard (is_reserved PAR w.0)
+  p ← list_first w.1
+  _ ← guard (not (is_empty p.0))
+  _ ← guard (are_symbols p.0)
+  c ← list_first p.1
+  _ ← guard (is_empty c.1)
+  _ ← guard (not (is_empty c.0))
+  _ ← guard (are_constructor_decs c.0)
+  Some (p.0, c.0)
+
+-- ( con_dec+ ) | ( par ( symbol+ ) ( con_dec+ ) )
+abbrev pub is_data_dec : Sexp Tok → Bool
+is_data_dec (atom t) = false
+is_data_dec (list at ts) = is_some (parametric_parts ts) || (not (is_empty ts) && are_constructor_decs ts)
+
+abbrev pub are_data_decs : Sexps Tok → Bool
+are_data_decs nil = true
+are_data_decs (cons (atom t) ts) = false
+are_data_decs (cons (list at us) ts) = is_data_dec (list at us) && are_data_decs ts
+
+-- symbol ( variable* ) sort
+abbrev pub fun_dec_parts : Sexps Tok → Option (Tok × Sexps Tok × Part)
+fun_dec_parts ts = do
+  n ← symbol_first ts
+  v ← list_first n.1
+  _ ← guard (are_named v.0)
+  s ← any_first v.1
+  _ ← guard (is_empty s.1)
+  Some (n.0, v.0, s.0)
+
+-- each of some trees is ( symbol ( variable* ) sort )
+abbrev pub are_fun_decs : Sexps Tok → Bool
+are_fun_decs nil = true
+are_fun_decs (cons (atom t) ts) = false
+are_fun_decs (cons (list at us) ts) = is_some (fun_dec_parts us) && are_fun_decs ts
+
+-- not symbol
+abbrev pub negated_parts : Sexps Tok → Option Tok
+negated_parts ts = do
+  w ← symbol_first ts
+  _ ← guard (w.0.name == NOT)
+  s ← symbol_first w.1
+  _ ← guard (is_empty s.1)
+  Some s.0
+
+-- symbol | ( not symbol )
+abbrev pub is_literal : Sexp Tok → Bool
+is_literal (atom t) = is_symbol t
+is_literal (list at ts) = is_some (negated_parts ts)
+
+abbrev pub are_literals : Sexps Tok → Bool
+are_literals nil = true
+are_literals (cons (atom t) ts) = is_literal (atom t) && are_literals ts
+are_literals (cons (list at us) ts) = is_literal (list at us) && are_literals ts
+
+-- keyword | keyword value
+abbrev pub attribute_parts : Sexps Tok → Option (Tok × Option Part)
+attribute_parts ts = do
+  k ← token_first ts
+  _ ← guard (is_keyword k.0)
+  _ ← guard (is_empty (value_first k.1).1)
+  Some (k.0, (value_first k.1).0)
+
+-- the symbol `true` or the symbol `false`
+abbrev pub is_truth : Option Part → Bool
+is_truth None = false
+is_truth (Some (part.Atom t)) = is_symbol t && (t.name == TRUE || t.name == FALSE)
+is_truth (Some (part.List at ts)) = false
+
+-- what a command sets `:global-declarations` to is a truth value
+abbrev pub option_fits : Tok → Option Part → Bool
+option_fits k v = not (is_key GLOBAL_DECLARATIONS k) || is_truth v

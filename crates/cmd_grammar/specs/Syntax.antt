@@ -1,0 +1,78 @@
+-- The abstract syntax of sorts and terms (SMT-LIB 2.6, sections 3.3 to 3.6). A number beside a part is the byte of the
+-- parenthesis that begins it.
+use Rattle.std.specs.Prelude.{ℕ, List, [], ◌∷◌, Option}
+use Rattle.lex_core.specs.declared.token.Tok.{Tok}
+use Rattle.sexp_core.specs.Sexp.{Sexp}
+
+-- symbol | ( _ symbol index+ )
+pub data Identifier : Type 0 where
+  symbol : Tok → Identifier
+  indexed : ℕ → Tok → List Tok → Identifier
+
+-- identifier | ( identifier sort+ )
+mutual
+  pub data Sort : Type 0 where
+    named_sort : Identifier → Sort
+    applied_sort : ℕ → Identifier → Sorts → Sort
+
+  pub data Sorts : Type 0 where
+    no_sorts : Sorts
+    with_sort : Sort → Sorts → Sorts
+
+-- identifier | ( as identifier sort )
+pub data Qualified : Type 0 where
+  unqualified : Identifier → Qualified
+  qualified : ℕ → Identifier → Sort → Qualified
+
+-- ( symbol sort ): a variable or a selector
+pub record SortedSymbol : Type 0 where
+  pub at : ℕ
+  pub name : Tok
+  pub sort : Sort
+
+-- symbol | ( symbol symbol+ )
+pub data Pattern : Type 0 where
+  symbol_pattern : Tok → Pattern
+  constructor_pattern : ℕ → Tok → List Tok → Pattern
+
+-- One case for each production of a term. A binding is ( symbol term ), a case ( pattern term ), and a note an attribute
+-- of a term.
+mutual
+  pub data Term : Type 0 where
+    constant : Tok → Term
+    qualified_term : Qualified → Term
+    application : ℕ → Qualified → Terms → Term
+    let_in : ℕ → Bindings → Term → Term
+    for_all : ℕ → List SortedSymbol → Term → Term
+    there_exists : ℕ → List SortedSymbol → Term → Term
+    match_with : ℕ → Term → Cases → Term
+    annotated : ℕ → Term → Notes → Term
+
+  pub data Terms : Type 0 where
+    no_terms : Terms
+    with_term : Term → Terms → Terms
+
+  pub data Bindings : Type 0 where
+    no_bindings : Bindings
+    with_binding : ℕ → Tok → Term → Bindings → Bindings
+
+  pub data Cases : Type 0 where
+    no_cases : Cases
+    with_case : ℕ → Pattern → Term → Cases → Cases
+
+  -- :named symbol | :pattern ( term+ ) | keyword | keyword value
+  pub data Notes : Type 0 where
+    no_notes : Notes
+    with_named : Tok → Tok → Notes → Notes
+    with_pattern : Tok → Terms → Notes → Notes
+    with_attribute : Tok → Option (Sexp Tok) → Notes → Notes
+
+-- the sorts as a list
+abbrev pub each_sort : Sorts → List Sort
+each_sort no_sorts = []
+each_sort (with_sort s ss) = s ∷ each_sort ss
+
+-- the terms as a list
+abbrev pub each_term : Terms → List Term
+each_term no_terms = []
+each_term (with_term t ts) = t ∷ each_term ts

@@ -1,0 +1,208 @@
+//! The form of the declarations and literals in commands: their parts, where any tree is a sort or a term.
+ghost use Rattle.std.specs.Prelude.{◌≡◌};
+ghost use Rattle.sexp_core.specs.Parts.{whole};
+ghost use Rattle.cmd_grammar.specs.DeclarationForms as definition;
+
+use crate::parts::{any_first, guard, is_empty, list_first, symbol_first, token_first};
+use crate::term_form::{are_named, are_symbols, value_first};
+use crate::words::{
+    FALSE, GLOBAL_DECLARATIONS, NOT, PAR, TRUE, is_key, is_keyword, is_numeral, is_reserved,
+    is_symbol,
+};
+use lex_core::Tok;
+use sexp_core::{Part, Trees};
+
+/// The parts of `( symbol numeral )`.
+pub(crate) fn sort_dec_parts<'t>(parts: &Trees<'t>) -> Option<(Tok, Tok)>
+    ensures { result ≡ definition.sort_dec_parts parts.now }
+{
+    let (name, rest) = symbol_first(parts)?;
+    let (arity, rest) = token_first(&rest)?;
+    guard(is_numeral(&arity))?;
+    guard(is_empty(&rest))?;
+    Some((name, arity))
+}
+
+/// Whether each of some trees is `( symbol numeral )`.
+pub(crate) fn are_sort_decs(trees: &Trees) -> bool
+    ensures { result ≡ definition.are_sort_decs trees.now }
+{
+    let mut next = trees.split();
+    while let Some((first, rest)) = next {
+        match first {
+            Part::Atom(_) => return false,
+            Part::List { parts, .. } => {
+                if sort_dec_parts(&parts).is_none() {
+                    return false;
+                }
+            }
+        }
+        next = rest.split();
+    }
+    true
+}
+
+/// The parts of `( symbol selector* )`.
+pub(crate) fn constructor_dec_parts<'t>(parts: &Trees<'t>) -> Option<(Tok, Trees<'t>)>
+    ensures { result ≡ definition.constructor_dec_parts parts.now }
+{
+    let (name, selectors) = symbol_first(parts)?;
+    guard(are_named(&selectors))?;
+    Some((name, selectors))
+}
+
+/// Whether each of some trees is `( symbol selector* )`.
+pub(crate) fn are_constructor_decs(trees: &Trees) -> bool
+    ensures { result ≡ definition.are_constructor_decs trees.now }
+{
+    let mut next = trees.split();
+    while let Some((first, rest)) = next {
+        match first {
+            Part::Atom(_) => return false,
+            Part::List { parts, .. } => {
+                if constructor_dec_parts(&parts).is_none() {
+                    return false;
+                }
+            }
+        }
+        next = rest.split();
+    }
+    true
+}
+
+/// The parts of `( par ( symbol+ ) ( con_dec+ ) )`.
+pub(crate) fn parametric_parts<'t>(parts: &Trees<'t>) -> Option<(Trees<'t>, Trees<'t>)>
+    ensures { result ≡ definition.parametric_parts parts.now }
+{
+    let (word, rest) = token_first(parts)?;
+    guard(is_reserved(&word, PAR))?;
+    let (params, rest) = list_first(&rest)?;
+    guard(!is_empty(&params))?;
+    guard(are_symbols(&params))?;
+    let (constructors, rest) = list_first(&rest)?;
+    guard(is_empty(&rest))?;
+    guard(!is_empty(&constructors))?;
+    guard(are_constructor_decs(&constructors))?;
+    Some((params, constructors))
+}
+
+/// Whether the tree is the declaration of a datatype.
+pub(crate) fn is_data_dec(tree: &Part) -> bool
+    ensures { result ≡ definition.is_data_dec (whole tree.now) }
+{
+    match tree {
+        Part::Atom(_) => false,
+        Part::List { parts, .. } => {
+            parametric_parts(parts).is_some() || (!is_empty(parts) && are_constructor_decs(parts))
+        }
+    }
+}
+
+/// Whether each of some trees is the declaration of a datatype.
+pub(crate) fn are_data_decs(trees: &Trees) -> bool
+    ensures { result ≡ definition.are_data_decs trees.now }
+{
+    let mut next = trees.split();
+    while let Some((first, rest)) = next {
+        if !is_data_dec(&first) {
+            return false;
+        }
+        next = rest.split();
+    }
+    true
+}
+
+/// The parts of `( symbol ( variable* ) sort )`.
+pub(crate) fn fun_dec_parts<'t>(parts: &Trees<'t>) -> Option<(Tok, Trees<'t>, Part<'t>)>
+    ensures { result ≡ definition.fun_dec_parts parts.now }
+{
+    let (name, rest) = symbol_first(parts)?;
+    let (params, rest) = list_first(&rest)?;
+    guard(are_named(&params))?;
+    let (result, rest) = any_first(&rest)?;
+    guard(is_empty(&rest))?;
+    Some((name, params, result))
+}
+
+/// Whether each of some trees is `( symbol ( variable* ) sort )`.
+pub(crate) fn are_fun_decs(trees: &Trees) -> bool
+    ensures { result ≡ definition.are_fun_decs trees.now }
+{
+    let mut next = trees.split();
+    while let Some((first, rest)) = next {
+        match first {
+            Part::Atom(_) => return false,
+            Part::List { parts, .. } => {
+                if fun_dec_parts(&parts).is_none() {
+                    return false;
+                }
+            }
+        }
+        next = rest.split();
+    }
+    true
+}
+
+/// The symbol of `( not symbol )`.
+pub(crate) fn negated_parts(parts: &Trees) -> Option<Tok>
+    ensures { result ≡ definition.negated_parts parts.now }
+{
+    let (word, rest) = symbol_first(parts)?;
+    guard(word.name.number() == NOT)?;
+    let (symbol, rest) = symbol_first(&rest)?;
+    guard(is_empty(&rest))?;
+    Some(symbol)
+}
+
+/// Whether the tree is `symbol` or `( not symbol )`.
+pub(crate) fn is_literal(tree: &Part) -> bool
+    ensures { result ≡ definition.is_literal (whole tree.now) }
+{
+    match tree {
+        Part::Atom(tok) => is_symbol(tok),
+        Part::List { parts, .. } => negated_parts(parts).is_some(),
+    }
+}
+
+/// Whether each of some trees is a literal.
+pub(crate) fn are_literals(trees: &Trees) -> bool
+    ensures { result ≡ definition.are_literals trees.now }
+{
+    let mut next = trees.split();
+    while let Some((first, rest)) = next {
+        if !is_literal(&first) {
+            return false;
+        }
+        next = rest.split();
+    }
+    true
+}
+
+/// The parts of an attribute: a keyword, and its value if there is one.
+pub(crate) fn attribute_parts<'t>(parts: &Trees<'t>) -> Option<(Tok, Option<Part<'t>>)>
+    ensures { result ≡ definition.attribute_parts parts.now }
+{
+    let (key, rest) = token_first(parts)?;
+    guard(is_keyword(&key))?;
+    let (value, rest) = value_first(rest);
+    guard(is_empty(&rest))?;
+    Some((key, value))
+}
+
+fn is_truth(value: &Option<Part>) -> bool
+    ensures { result ≡ definition.is_truth value.now }
+{
+    match value {
+        Some(Part::Atom(tok)) => {
+            is_symbol(tok) && (tok.name.number() == TRUE || tok.name.number() == FALSE)
+        }
+        Some(Part::List { .. }) | None => false,
+    }
+}
+
+/// Whether the option may have this value: `:global-declarations` is set to `true` or `false`.
+pub(crate) fn option_fits(key: &Tok, value: &Option<Part>) -> bool
+    ensures { result ≡ definition.option_fits key.now value.now }
+{
+    !is_key(key, GLOBAL_DECLARATIONS) || is_truth(value)
+}
