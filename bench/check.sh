@@ -5,9 +5,7 @@ set -euo pipefail
 cd "$(dirname "$0")/.."
 . bench/measure.sh
 program=${1:-crates/dolmen/out/dolmen}
-[ -x "$program" ] || { echo "build the program first: (cd crates/dolmen && rt run -- check < ../../examples/first.smt2)" >&2; exit 1; }
-script=$(mktemp)
-trap 'rm -f "$script"' EXIT
+start "$program" '(cd crates/dolmen && rt run -- check < ../../examples/first.smt2)'
 
 # script_of BYTES: a script of about so many bytes.
 script_of() {

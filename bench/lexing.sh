@@ -5,9 +5,7 @@ set -euo pipefail
 cd "$(dirname "$0")/.."
 . bench/measure.sh
 program=${1:-crates/lexing_speed/out/lexing_speed}
-[ -x "$program" ] || { echo "build the program first: (cd crates/lexing_speed && rt run -- lex < stdin)" >&2; exit 1; }
-script=$(mktemp)
-trap 'rm -f "$script"' EXIT
+start "$program" '(cd crates/lexing_speed && rt run -- lex < stdin)'
 
 awk 'BEGIN {
   for (i = 0; written < 64000000; i++) {

@@ -1,5 +1,13 @@
 # Runs a program on a file, and prints its speed and its peak memory. For the scripts beside it.
 
+# start PROGRAM COMMAND: stops where the program is not built, naming the command that builds it, and else makes an empty
+# file, $script, that goes with the shell.
+start() {
+  [ -x "$1" ] || { echo "build the program first: $2" >&2; exit 1; }
+  script=$(mktemp)
+  trap 'rm -f "$script"' EXIT
+}
+
 # measure LABEL FILE PROGRAM [WORDS]: prints a line, and leaves the seconds in $seconds.
 measure() {
   local label=$1 file=$2 size used
