@@ -80,6 +80,16 @@ impl<'t> Trees<'t> {
         }
     }
 
+    /// Another cursor on the same s-expressions.
+    pub fn reborrow(&self) -> Trees<'t>
+        ensures { result ≡ self.now }
+    {
+        Trees {
+            items: self.items,
+            from: self.from,
+        }
+    }
+
     /// How many s-expressions there are. It walks over them.
     pub fn len(&self) -> usize
         ensures { result ≡ count_of self.now }
@@ -113,6 +123,19 @@ impl<'t> Trees<'t> {
 }
 
 impl<'t> Part<'t> {
+    /// The same s-expression once more.
+    pub fn reborrow(&self) -> Part<'t>
+        ensures { result ≡ self.now }
+    {
+        match self {
+            Part::Atom(tok) => Part::Atom(*tok),
+            Part::List { at, parts } => Part::List {
+                at: *at,
+                parts: parts.reborrow(),
+            },
+        }
+    }
+
     /// The s-expression as a tree of its own.
     pub fn copy(&self, alloc: Global) -> Result<Tree, AllocError>
         ensures { IfOk result (λ t. t ≡ whole self.now) }
