@@ -11,10 +11,10 @@ use Rattle.cmd_grammar.specs.declared.command_form.CommandForm.TheVariants as fo
 use Rattle.cmd_grammar.specs.Commands.{Command}
 use Rattle.cmd_grammar.specs.DeclarationForms.{constructor_dec_parts, parametric_parts, fun_dec_parts}
 use Rattle.cmd_grammar.specs.CommandForms.{command_form}
-use Rattle.cmd_grammar.specs.Reads.{read_sort, read_sorts, read_sorted, read_term, read_terms}
+use Rattle.term_grammar.specs.Reads.{read_sort, read_sorts, read_sorted, read_term, read_terms}
 use Rattle.cmd_grammar.specs.CommandReads.{read_constructors, constructor_then, read_data_dec, data_dec_by, read_data_decs, read_fun_decs, fun_dec, fun_dec_then, command_by, or_wrong_term, command_of_form, read_command, command_judged}
-use Rattle.cmd_grammar.specs.FormReading.{judged, both}
-use Rattle.cmd_grammar.proofs.FormsRead.{judged-made_of, judged-made_of_two, judged-made_of_three}
+use Rattle.term_grammar.specs.FormReading.{judged, both}
+use Rattle.term_grammar.proofs.FormsRead.{judged-made_of, judged-made_of_two, judged-made_of_three}
 
 pub judged-no_constructors : judged (read_constructors nil) ≡ Ok tt
 unfolding read_constructors

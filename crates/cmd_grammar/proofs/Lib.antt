@@ -1,8 +1,1 @@
-pub mod AttributeLists
-pub mod FormsRead
-pub mod ListsRead
-pub mod FormSizes
-pub mod JudgedLists
 pub mod JudgedCommands
-pub mod SortsSeen
-pub mod TermsSeen

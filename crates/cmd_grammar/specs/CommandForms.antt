@@ -9,9 +9,9 @@ use Rattle.cmd_grammar.specs.declared.command_word.CommandWord.{CommandWord}
 use Rattle.cmd_grammar.specs.declared.command_word.CommandWord.TheVariants as command
 use Rattle.cmd_grammar.specs.declared.command_form.CommandForm.{CommandForm}
 use Rattle.cmd_grammar.specs.declared.command_form.CommandForm.TheVariants as form
-use Rattle.cmd_grammar.specs.Words.{is_numeral, is_string, is_keyword}
-use Rattle.cmd_grammar.specs.FirstParts.{◌>>=◌, any_first, token_first, symbol_first, list_first, is_empty, guard}
-use Rattle.cmd_grammar.specs.TermForms.{are_symbols, are_named}
+use Rattle.term_grammar.specs.Words.{is_numeral, is_string, is_keyword}
+use Rattle.term_grammar.specs.FirstParts.{◌>>=◌, any_first, token_first, symbol_first, list_first, is_empty, guard}
+use Rattle.term_grammar.specs.TermForms.{are_symbols, are_named}
 use Rattle.cmd_grammar.specs.DeclarationForms.{are_sort_decs, is_data_dec, are_data_decs, are_fun_decs, are_literals, attribute_parts, option_fits}
 use Rattle.cmd_grammar.specs.CommandWords.{command_begun_by}
 

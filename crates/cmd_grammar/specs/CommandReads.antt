@@ -8,11 +8,11 @@ use Rattle.sexp_core.specs.Parts.{whole}
 use Rattle.sexp_core.specs.declared.parts.Part.{Part}
 use Rattle.cmd_grammar.specs.declared.command_form.CommandForm.{CommandForm}
 use Rattle.cmd_grammar.specs.declared.command_form.CommandForm.TheVariants as form
-use Rattle.cmd_grammar.specs.Syntax.{SortedSymbol, Sort}
+use Rattle.term_grammar.specs.Syntax.{SortedSymbol, Sort}
 use Rattle.cmd_grammar.specs.Commands.{SortDec, ConstructorDec, DataDec, plain_data, parametric_data, FunDec, Literal, positive, negative, Command, assert, check_sat, check_sat_assuming, declare_const, declare_datatype, declare_datatypes, declare_fun, declare_sort, define_fun, define_fun_rec, define_funs_rec, define_sort, echo, exit, get_assertions, get_assignment, get_info, get_model, get_option, get_proof, get_unsat_assumptions, get_unsat_core, get_value, pop, push, reset, reset_assertions, set_info, set_logic, set_option}
 use Rattle.cmd_grammar.specs.DeclarationForms.{sort_dec_parts, constructor_dec_parts, parametric_parts, fun_dec_parts, negated_parts}
 use Rattle.cmd_grammar.specs.CommandForms.{command_form}
-use Rattle.cmd_grammar.specs.Reads.{made_of, made_of_two, made_of_three, tokens_of, no_token, read_sort, read_sorts, read_sorted, read_term, read_terms}
+use Rattle.term_grammar.specs.Reads.{made_of, made_of_two, made_of_three, tokens_of, no_token, read_sort, read_sorts, read_sorted, read_term, read_terms}
 
 abbrev pub negative_by : ℕ → Option Tok → Literal
 negative_by at (Some s) = negative at s

@@ -4,7 +4,7 @@ use Rattle.lex_core.specs.declared.token.Tok.{Tok}
 use Rattle.cmd_grammar.specs.declared.command_word.TheConstants.{ASSERT, CHECK_SAT, CHECK_SAT_ASSUMING, DECLARE_CONST, DECLARE_DATATYPE, DECLARE_DATATYPES, DECLARE_FUN, DECLARE_SORT, DEFINE_FUN, DEFINE_FUN_REC, DEFINE_FUNS_REC, DEFINE_SORT, ECHO, EXIT, GET_ASSERTIONS, GET_ASSIGNMENT, GET_INFO, GET_MODEL, GET_OPTION, GET_PROOF, GET_UNSAT_ASSUMPTIONS, GET_UNSAT_CORE, GET_VALUE, POP, PUSH, RESET, RESET_ASSERTIONS, SET_INFO, SET_LOGIC, SET_OPTION}
 use Rattle.cmd_grammar.specs.declared.command_word.CommandWord.{CommandWord}
 use Rattle.cmd_grammar.specs.declared.command_word.CommandWord.TheVariants as command
-use Rattle.cmd_grammar.specs.Words.{reserved_kind}
+use Rattle.term_grammar.specs.Words.{reserved_kind}
 
 abbrev pub third_ten : ℕ → CommandWord
 third_ten n =

@@ -3,7 +3,7 @@
 use Rattle.std.specs.Prelude.{ℕ, List, Option}
 use Rattle.lex_core.specs.declared.token.Tok.{Tok}
 use Rattle.sexp_core.specs.declared.parts.Part.{Part}
-use Rattle.cmd_grammar.specs.Syntax.{Sort, Sorts, SortedSymbol, Term, Terms}
+use Rattle.term_grammar.specs.Syntax.{Sort, Sorts, SortedSymbol, Term, Terms}
 
 -- ( symbol numeral )
 pub record SortDec : Type 0 where

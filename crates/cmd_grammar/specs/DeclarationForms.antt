@@ -4,10 +4,10 @@ use Rattle.lex_core.specs.declared.token.Tok.{Tok}
 use Rattle.sexp_core.specs.Sexp.{Sexp, atom, list, Sexps, nil, cons}
 use Rattle.sexp_core.specs.declared.parts.Part.{Part}
 use Rattle.sexp_core.specs.declared.parts.Part.TheVariants as part
-use Rattle.cmd_grammar.specs.declared.words.TheConstants.{PAR, NOT, TRUE, FALSE, GLOBAL_DECLARATIONS}
-use Rattle.cmd_grammar.specs.Words.{is_symbol, is_numeral, is_reserved, is_keyword, is_key}
-use Rattle.cmd_grammar.specs.FirstParts.{◌>>=◌, any_first, token_first, symbol_first, list_first, is_empty, guard}
-use Rattle.cmd_grammar.specs.TermForms.{are_symbols, are_named, value_first}
+use Rattle.term_grammar.specs.declared.words.TheConstants.{PAR, NOT, TRUE, FALSE, GLOBAL_DECLARATIONS}
+use Rattle.term_grammar.specs.Words.{is_symbol, is_numeral, is_reserved, is_keyword, is_key}
+use Rattle.term_grammar.specs.FirstParts.{◌>>=◌, any_first, token_first, symbol_first, list_first, is_empty, guard}
+use Rattle.term_grammar.specs.TermForms.{are_symbols, are_named, value_first}
 
 -- symbol numeral
 abbrev pub sort_dec_parts : Sexps Tok → Option (Tok × Tok)

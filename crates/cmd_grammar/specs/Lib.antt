@@ -1,10 +1,3 @@
-pub mod Words
-pub mod FirstParts
-pub mod Syntax
-pub mod Forms
-pub mod TermForms
-pub mod Reads
-pub mod FormReading
 pub mod CommandWords
 pub mod DeclarationForms
 pub mod CommandForms
@@ -12,7 +5,3 @@ pub mod Commands
 pub mod CommandReads
 pub mod CommandAnswers
 pub mod WordNumbers
-pub mod IdentifierTree
-pub mod SortViews
-pub mod QualifiedTree
-pub mod TermViews

@@ -1,6 +1,6 @@
 //! Commands.
 ghost use Rattle.std.specs.Prelude.{◌≡◌};
-ghost use Rattle.cmd_grammar.specs.Reads.{byte_of};
+ghost use Rattle.term_grammar.specs.Reads.{byte_of};
 ghost use Rattle.cmd_grammar.specs.CommandAnswers.{Answers};
 
 use crate::judge_command::judge_command;

@@ -8,12 +8,10 @@ use crate::declaration_form::{
     are_data_decs, are_fun_decs, are_literals, are_sort_decs, attribute_parts, is_data_dec,
     option_fits,
 };
-use crate::parts::{any_first, guard, is_empty, list_first, symbol_first, token_first};
-use crate::term_form::{are_named, are_symbols};
-use crate::words::{is_keyword, is_numeral, is_string};
 use lex_core::{Place, Tok};
 use sexp_core::{Part, Trees};
 use sig_table::Code;
+use term_grammar::{any_first, are_named, are_symbols, guard, is_empty, is_keyword, is_numeral, is_string, list_first, symbol_first, token_first};
 
 /// A command, by its form.
 #[derive(Drop)]

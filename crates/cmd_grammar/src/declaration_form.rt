@@ -3,14 +3,9 @@ ghost use Rattle.std.specs.Prelude.{◌≡◌};
 ghost use Rattle.sexp_core.specs.Parts.{whole};
 ghost use Rattle.cmd_grammar.specs.DeclarationForms as definition;
 
-use crate::parts::{any_first, guard, is_empty, list_first, symbol_first, token_first};
-use crate::term_form::{are_named, are_symbols, value_first};
-use crate::words::{
-    FALSE, GLOBAL_DECLARATIONS, NOT, PAR, TRUE, is_key, is_keyword, is_numeral, is_reserved,
-    is_symbol,
-};
 use lex_core::Tok;
 use sexp_core::{Part, Trees};
+use term_grammar::{FALSE, GLOBAL_DECLARATIONS, NOT, PAR, TRUE, any_first, are_named, are_symbols, guard, is_empty, is_key, is_keyword, is_numeral, is_reserved, is_symbol, list_first, symbol_first, token_first, value_first};
 
 /// The parts of `( symbol numeral )`.
 pub(crate) fn sort_dec_parts<'t>(parts: &Trees<'t>) -> Option<(Tok, Tok)>

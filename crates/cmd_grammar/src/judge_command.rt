@@ -2,14 +2,14 @@
 ghost use Rattle.std.specs.Prelude.{◌≡◌};
 ghost use Rattle.sexp_core.specs.Parts.{whole};
 ghost use Rattle.cmd_grammar.specs.CommandReads.{read_constructors, read_data_dec, read_data_decs, read_fun_decs, command_by, read_command, command_judged};
-ghost use Rattle.cmd_grammar.specs.FormReading.{judged};
+ghost use Rattle.term_grammar.specs.FormReading.{judged};
 
 use crate::command_form::{CommandForm, command_form};
 use crate::declaration_form::{constructor_dec_parts, fun_dec_parts, parametric_parts};
-use crate::judge::{judge_sort, judge_sorted, judge_sorts, judge_term, judge_terms};
 use lex_core::Place;
 use sexp_core::{Part, Trees};
 use sig_table::Code;
+use term_grammar::{judge_sort, judge_sorted, judge_sorts, judge_term, judge_terms};
 
 #[tactic(auto, using(crate::proofs::JudgedCommands::constructors_rules))]
 fn judge_constructors(trees: &Trees) -> Result<(), u32>

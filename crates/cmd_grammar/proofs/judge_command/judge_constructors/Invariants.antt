@@ -2,7 +2,7 @@ use Rattle.std.proofs.Common.{◌≡◌}
 use Rattle.sexp_core.specs.Items.{size_all}
 use Rattle.sexp_core.specs.Parts.{unsplit}
 use Rattle.cmd_grammar.specs.CommandReads.{read_constructors}
-use Rattle.cmd_grammar.specs.FormReading.{judged}
+use Rattle.term_grammar.specs.FormReading.{judged}
 use Rattle.cmd_grammar.proofs.judge_command.judge_constructors.Given as goal
 
 -- what is left decides

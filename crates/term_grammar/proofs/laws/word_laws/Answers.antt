@@ -1,0 +1,20 @@
+use Rattle.std.proofs.Common.{refl}
+use Rattle.term_grammar.proofs.laws.word_laws.Goals as goal
+
+pub returns-clause-syntax : goal.returns-clause-syntax
+returns-clause-syntax c = record {
+  annotation = refl;
+  underscore = refl;
+  as_word = refl;
+  exists = refl;
+  forall = refl;
+  let_word = refl;
+  match_word = refl;
+  par = refl;
+  named = refl;
+  pattern = refl;
+  global_declarations = refl;
+  true_symbol = refl;
+  false_symbol = refl;
+  not_symbol = refl;
+}

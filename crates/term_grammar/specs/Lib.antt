@@ -1,0 +1,12 @@
+pub mod Words
+pub mod FirstParts
+pub mod Syntax
+pub mod Forms
+pub mod TermForms
+pub mod Reads
+pub mod FormReading
+pub mod WordNumbers
+pub mod IdentifierTree
+pub mod SortViews
+pub mod QualifiedTree
+pub mod TermViews
