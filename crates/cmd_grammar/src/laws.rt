@@ -3,5 +3,5 @@ ghost use Rattle.cmd_grammar.specs.WordNumbers.{CommandNames};
 
 /// The numbers by which the grammar tells the names of commands are those of their texts in every table of names.
 pub fn word_laws()
-    ensures commands { CommandNames }
+    ensures { CommandNames }
 {}

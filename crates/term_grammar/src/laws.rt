@@ -3,5 +3,5 @@ ghost use Rattle.term_grammar.specs.WordNumbers.{SyntaxWords};
 
 /// The numbers by which the grammar tells its words are those of their texts in every table of names.
 pub fn word_laws()
-    ensures syntax { SyntaxWords }
+    ensures { SyntaxWords }
 {}

@@ -1,8 +1,8 @@
 use Rattle.std.proofs.Common.{refl}
 use Rattle.cmd_grammar.proofs.laws.word_laws.Goals as goal
 
-pub returns-clause-commands : goal.returns-clause-commands
-returns-clause-commands c = record {
+pub returns : goal.returns
+returns c = record {
   assert = refl;
   check_sat = refl;
   check_sat_assuming = refl;

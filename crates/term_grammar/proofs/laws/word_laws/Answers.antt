@@ -1,8 +1,8 @@
 use Rattle.std.proofs.Common.{refl}
 use Rattle.term_grammar.proofs.laws.word_laws.Goals as goal
 
-pub returns-clause-syntax : goal.returns-clause-syntax
-returns-clause-syntax c = record {
+pub returns : goal.returns
+returns c = record {
   annotation = refl;
   underscore = refl;
   as_word = refl;
