@@ -1,9 +1,10 @@
 -- What one more token makes of a checker that has taken some tokens.
-use Rattle.std.proofs.Common.{◌≡◌, ℕ, ◌+◌, ◌<◌, ◌≤◌, false, List, [], ◌∷◌, ◌++◌, length, map, Option, None, refl, sym, ◌∙◌, ap, subst, Bool, length-append, inl, inr, arith}
-use Rattle.std.proofs.lemmas.List.{map-append}
-use Rattle.lex_core.proofs.CallClauses.{number_kept, text_kept, token_kept}
+use Rattle.std.proofs.Common.{◌≡◌, ℕ, ◌+◌, ◌<◌, ◌≤◌, Bool, false, List, [], ◌∷◌, ◌++◌, length, Option, None, refl, sym, ◌∙◌, ap, subst, length-append, inl, inr, arith}
+use Rattle.std.proofs.lemmas.List.{append-nil, map-append}
+use Rattle.lex_core.proofs.CallClauses.{number_kept, token_kept}
 use Rattle.lex_core.specs.LexerCalls.{ExtendsTable, HasRead}
 use Rattle.lex_core.specs.LexerSteps.{LexerState}
+use Rattle.lex_core.specs.NameTable.{IsNameTable, fixed_texts}
 use Rattle.lex_core.specs.Token.{Token, token_of}
 use Rattle.lex_core.specs.declared.token.Tok.{Tok}
 use Rattle.lex_core.specs.declared.token.TokKind.{TokKind}
@@ -16,18 +17,20 @@ use Rattle.sexp_core.specs.Builder.{State}
 use Rattle.sexp_core.specs.Reading.{IsList, IsUnfinished, Reads, TreeFault}
 use Rattle.sexp_core.specs.Sexp.{FlatToken, Opening, Closing, Word, Sexp, atom, list, flat, map_flat}
 use Rattle.sexp_core.specs.Tokens.{flat_of, flat_tok, flat_token, flat_tokens}
+use Rattle.judgement.specs.Judging.{Outcome, ill_sorted, well_sorted}
+use Rattle.cmd_grammar.specs.Commands.{Command}
 use Rattle.script_core.specs.declared.checker.Checker.{Checker}
+use Rattle.script_core.specs.declared.refusal.Progress.TheVariants as progress
 use Rattle.script_core.specs.declared.refusal.Refusal.{Refusal}
-use Rattle.script_core.specs.Acceptance.{CommandFault, place_of}
-use Rattle.script_core.specs.Checking.{Follows, HasTaken, TokenBreaks}
-use Rattle.script_core.specs.Command.{Command}
-use Rattle.script_core.specs.Interned.{AllNamed, AreInterned, ListSteps, environment_of, sexp_of, text_at}
-use Rattle.script_core.specs.Steps.{Environment, StepThrough, empty}
+use Rattle.script_core.specs.Acceptance.{place_of}
+use Rattle.script_core.specs.Checking.{Awaits, Exits, Follows, HasTaken, HasTokensOf, TakesTree, TokenBreaks, environment_of, texts_of}
+use Rattle.script_core.specs.Environment.{Environment, start}
+use Rattle.script_core.specs.Interned.{AreInterned, sexp_of}
+use Rattle.script_core.specs.Numbering.{numbered_sexp, table_after}
+use Rattle.script_core.specs.Steps.{all_taken, exited, judge_list, judge_tree}
+use Rattle.script_core.proofs.NameTables.{numbered_tree, table_append}
+use Rattle.script_core.proofs.Running.{next_exits, next_taken}
 use Rattle.script_core.proofs.TextLists.{one_token}
-
--- the tokens of an unfinished list with their names as texts
-abbrev pub texts_of : List (List ℕ) → List (FlatToken Tok) → List (FlatToken Token)
-texts_of texts u = map (map_flat (token_of texts)) u
 
 told_token : (texts : List (List ℕ)) (tok : Tok) → map_flat (token_of texts) (flat_tok tok) ≡ flat_token (token_of texts tok)
 told_token texts tok = map_flat-flat_of (token_of texts) tok.kind tok.at tok
@@ -65,10 +68,17 @@ interned_last texts (Opening at ∷ u) tok h n = interned_last texts u tok h n
 interned_last texts (Closing ∷ u) tok h n = interned_last texts u tok h n
 interned_last texts (Word a ∷ u) tok h n = (h.0, interned_last texts u tok h.1 n)
 
+-- the table after the unfinished list and the next token
+next_table : (known : List (List ℕ)) (tokens : List Token) (c : Checker) (t : Token) (f : Follows known tokens c) → c.names ≡ table_after known (flat_token t ∷ [])
+    → c.names ≡ table_after f.names (texts_of c.names c.builder.0 ++ flat_token t ∷ [])
+next_table known tokens c t f awaited =
+    awaited ∙ (ap (λ (k : List (List ℕ)). table_after k (flat_token t ∷ [])) f.table ∙ sym (table_append f.names (texts_of c.names c.builder.0) (flat_token t ∷ [])))
+
 -- the next token goes on with the unfinished list
-pub follows_inside : (tokens : List Token) (c : Checker) (tok : Tok) (new : State) → Follows tokens c → tok.name < length c.names → new ≡ (c.builder.0 ++ flat_tok tok ∷ [], None)
-    → IsUnfinished new.0 → ((rule : Code) → TreeFault c.builder.0 (flat_tok tok) rule → ⊥) → Follows (tokens ++ token_of c.names tok ∷ []) (record c { builder = new })
-follows_inside tokens c tok new f named held unfinished fine =
+pub follows_inside : (tokens : List Token) (c : Checker) (tok : Tok) (new : State) → Awaits tokens (token_of c.names tok ∷ []) c → tok.name < length c.names → new ≡ (c.builder.0 ++ flat_tok tok ∷ [], None)
+    → IsUnfinished new.0 → ((rule : Code) → TreeFault c.builder.0 (flat_tok tok) rule → ⊥) → HasTokensOf (tokens ++ token_of c.names tok ∷ []) (record c { builder = new })
+follows_inside tokens c tok new w named held unfinished fine =
+    let f = w.follows in
     let u = c.builder.0 in
     let last = texts_more c.names u tok in
     let is_unfinished : IsUnfinished (texts_of c.names u ++ flat_token (token_of c.names tok) ∷ []) =
@@ -78,13 +88,15 @@ follows_inside tokens c tok new f named held unfinished fine =
     record {
       lists = f.lists;
       commands = f.commands;
+      names = f.names;
       reads = subst (λ (s : State). Reads (flat_tokens (tokens ++ token_of c.names tok ∷ [])) f.lists (texts_of c.names s.0)) (sym held)
           (subst (λ (fs : List (FlatToken Token)). Reads (flat_tokens (tokens ++ token_of c.names tok ∷ [])) f.lists fs) (sym last) reads);
       no_error = ap (λ (s : State). s.1) held;
-      steps = f.steps;
+      runs = f.runs;
       counted = f.counted;
       interned = subst (λ (s : State). AreInterned c.names s.0) (sym held) (interned_last c.names u tok f.interned named);
-      declared = f.declared;
+      table = subst (λ (s : State). c.names ≡ table_after f.names (texts_of c.names s.0)) (sym held)
+          (next_table w.known tokens c (token_of c.names tok) f w.names ∙ ap (λ (fs : List (FlatToken Token)). table_after f.names fs) (sym last));
     }
 
 is_list_told : (texts : List (List ℕ)) (t : Sexp Tok) → IsList t → IsList (sexp_of texts t)
@@ -95,57 +107,100 @@ is_list_told texts (list at ts) h = tt
 told_list : (texts : List (List ℕ)) (u : List (FlatToken Tok)) (tok : Tok) (t : Sexp Tok) → flat t ≡ u ++ flat_tok tok ∷ [] → flat (sexp_of texts t) ≡ texts_of texts u ++ flat_token (token_of texts tok) ∷ []
 told_list texts u tok t e = flat-map_sexp (token_of texts) t ∙ ap (texts_of texts) e ∙ texts_more texts u tok
 
-steps_more : (ts : List (Sexp Token)) (t : Sexp Token) (old mid new : Environment) (cs : List Command) (c : Command) → StepThrough old ts cs mid → StepThrough mid (t ∷ []) (c ∷ []) new → StepThrough old (ts ++ t ∷ []) (cs ++ c ∷ []) new
-steps_more [] t old mid new [] c steps last = subst (λ (e : Environment). StepThrough e (t ∷ []) (c ∷ []) new) steps last
-steps_more [] t old mid new (d ∷ cs) c steps last = absurd steps
-steps_more (s ∷ ts) t old mid new [] c steps last = absurd steps
-steps_more (s ∷ ts) t old mid new (d ∷ cs) c (next, is, step, rest) last = (next, is, step, steps_more ts t next mid new cs c rest last)
+-- what is judged of a tree with numbers is judged of its list
+judged_told : (known : List (List ℕ)) (tokens : List Token) (c : Checker) (tok : Tok) (t : Sexp Tok) (o : Outcome (Command × Environment)) (f : Follows known tokens c)
+    → c.names ≡ table_after known (flat_token (token_of c.names tok) ∷ []) → IsNameTable c.names → tok.name < length c.names → flat t ≡ c.builder.0 ++ flat_tok tok ∷ []
+    → judge_tree (environment_of c.names c.scope) t [] o → judge_list (environment_of f.names c.scope) (sexp_of c.names t) [] o
+judged_told known tokens c tok t o f awaited table named e judged =
+    let interned : AreInterned c.names (flat t) = rw e (interned_last c.names c.builder.0 tok f.interned named) in
+    let number : numbered_sexp c.names (sexp_of c.names t) ≡ t = numbered_tree c.names t table.distinct interned in
+    let names : table_after f.names (flat (sexp_of c.names t)) ≡ c.names =
+    ap (λ (fs : List (FlatToken Token)). table_after f.names fs) (told_list c.names c.builder.0 tok t e) ∙ sym (next_table known tokens c (token_of c.names tok) f awaited) in
+    subst (λ (ns : List (List ℕ)). judge_tree (environment_of ns c.scope) (numbered_sexp ns (sexp_of c.names t)) [] o) (sym names)
+    (subst (λ (x : Sexp Tok). judge_tree (environment_of c.names c.scope) x [] o) (sym number) judged)
 
--- the next token completes a list, which steps
-pub follows_list : (tokens : List Token) (c n : Checker) (tok : Tok) (t : Sexp Tok) → Follows tokens c → IsList t → flat t ≡ c.builder.0 ++ flat_tok tok ∷ [] → n.builder ≡ ([], None)
-    → ListSteps (environment_of c.names c.scope) (sexp_of c.names t) (environment_of n.names n.scope) → AllNamed n.names n.scope.declared.items → n.count ≡ c.count + 1
-    → Follows (tokens ++ token_of c.names tok ∷ []) n
-follows_list tokens c n tok t f is_list e emptied step named counted = record {
-  lists = f.lists ++ sexp_of c.names t ∷ [];
-  commands = f.commands ++ step.command ∷ [];
-  reads = subst (λ (s : State). Reads (flat_tokens (tokens ++ token_of c.names tok ∷ [])) (f.lists ++ sexp_of c.names t ∷ []) (texts_of n.names s.0)) (sym emptied)
-      (one_token tokens (token_of c.names tok) (f.lists ++ sexp_of c.names t ∷ []) []
-      (reads_list (flat_tokens tokens) f.lists (texts_of c.names c.builder.0) (flat_token (token_of c.names tok)) (sexp_of c.names t) f.reads (is_list_told c.names t is_list)
-      (told_list c.names c.builder.0 tok t e)));
-  no_error = ap (λ (s : State). s.1) emptied;
-  steps = steps_more f.lists (sexp_of c.names t) empty (environment_of c.names c.scope) (environment_of n.names n.scope) f.commands step.command f.steps
-      (environment_of n.names n.scope, step.is_command, step.step, refl);
-  counted = omega (arith, counted, f.counted, length-append f.commands (step.command ∷ []));
-  interned = subst (λ (s : State). AreInterned n.names s.0) (sym emptied) tt;
-  declared = named;
-}
+-- the lists of the tokens with the one that the next token completes
+reads_told : (known : List (List ℕ)) (tokens : List Token) (c : Checker) (tok : Tok) (t : Sexp Tok) (f : Follows known tokens c) → IsList t → flat t ≡ c.builder.0 ++ flat_tok tok ∷ []
+    → Reads (flat_tokens (tokens ++ token_of c.names tok ∷ [])) (f.lists ++ sexp_of c.names t ∷ []) []
+reads_told known tokens c tok t f is_list e =
+    one_token tokens (token_of c.names tok) (f.lists ++ sexp_of c.names t ∷ []) []
+    (reads_list (flat_tokens tokens) f.lists (texts_of c.names c.builder.0) (flat_token (token_of c.names tok)) (sexp_of c.names t) f.reads (is_list_told c.names t is_list)
+    (told_list c.names c.builder.0 tok t e))
+
+one_more : (commands : List Command) (command : Command) (old new : ℕ) → old ≡ length commands → new ≡ old + 1 → new ≡ length (commands ++ command ∷ [])
+one_more commands command old new counted more = omega (arith, counted, more, length-append commands (command ∷ []))
+
+-- the next token completes a list, which is taken
+pub follows_list : (tokens : List Token) (c n : Checker) (tok : Tok) (t : Sexp Tok) → Awaits tokens (token_of c.names tok ∷ []) c → IsNameTable c.names → tok.name < length c.names
+    → IsList t → flat t ≡ c.builder.0 ++ flat_tok tok ∷ [] → n.builder ≡ ([], None) → n.names ≡ c.names
+    → TakesTree (environment_of c.names c.scope) t progress.More (environment_of c.names n.scope) → n.count ≡ c.count + 1
+    → HasTokensOf (tokens ++ token_of c.names tok ∷ []) n
+follows_list tokens c n tok t w table named is_list e emptied same (command, declared, judged, goes) counted =
+    let f = w.follows in
+    let steps = judged_told w.known tokens c tok t (well_sorted (command, environment_of c.names n.scope) declared) f w.names table named e judged in
+    let runs = next_taken f.lists (sexp_of c.names t) start (environment_of f.names c.scope) (environment_of c.names n.scope) f.commands command f.runs (declared, steps) goes in
+    record {
+      lists = f.lists ++ sexp_of c.names t ∷ [];
+      commands = f.commands ++ command ∷ [];
+      names = c.names;
+      reads = subst (λ (s : State). Reads (flat_tokens (tokens ++ token_of c.names tok ∷ [])) (f.lists ++ sexp_of c.names t ∷ []) (texts_of n.names s.0)) (sym emptied)
+          (reads_told w.known tokens c tok t f is_list e);
+      no_error = ap (λ (s : State). s.1) emptied;
+      runs = runs;
+      counted = one_more f.commands command c.count n.count f.counted counted;
+      interned = subst (λ (s : State). AreInterned n.names s.0) (sym emptied) tt;
+      table = subst (λ (s : State). n.names ≡ table_after c.names (texts_of n.names s.0)) (sym emptied) same;
+    }
+
+-- the next token completes an `exit`
+pub exits_list : (tokens : List Token) (c n : Checker) (tok : Tok) (t : Sexp Tok) → Awaits tokens (token_of c.names tok ∷ []) c → IsNameTable c.names → tok.name < length c.names
+    → IsList t → flat t ≡ c.builder.0 ++ flat_tok tok ∷ []
+    → TakesTree (environment_of c.names c.scope) t progress.Ended (environment_of c.names n.scope) → n.count ≡ c.count + 1
+    → Exits (tokens ++ token_of c.names tok ∷ []) n.count
+exits_list tokens c n tok t w table named is_list e (command, declared, judged, exits) counted =
+    let f = w.follows in
+    let steps = judged_told w.known tokens c tok t (well_sorted (command, environment_of c.names n.scope) declared) f w.names table named e judged in
+    let runs = next_exits f.lists (sexp_of c.names t) start (environment_of f.names c.scope) (environment_of c.names n.scope) f.commands command f.runs (declared, steps) exits in
+    record {
+      front = tokens ++ token_of c.names tok ∷ [];
+      back = [];
+      spelled = sym (append-nil (tokens ++ token_of c.names tok ∷ []));
+      lists = f.lists ++ sexp_of c.names t ∷ [];
+      reads = reads_told w.known tokens c tok t f is_list e;
+      run = record { commands = f.commands ++ command ∷ []; env = environment_of c.names n.scope; cause = exited };
+      runs = runs;
+      ends = refl;
+      counted = one_more f.commands command c.count n.count f.counted counted;
+    }
 
 -- the next token breaks a rule of lists
-pub breaks_lists : (tokens : List Token) (c : Checker) (tok : Tok) (code : Code) (at : ℕ) → Follows tokens c → TreeFault c.builder.0 (flat_tok tok) code → at ≡ tok.at
+pub breaks_lists : (tokens : List Token) (c : Checker) (tok : Tok) (code : Code) (at : ℕ) → Awaits tokens (token_of c.names tok ∷ []) c → TreeFault c.builder.0 (flat_tok tok) code → at ≡ tok.at
     → TokenBreaks tokens (token_of c.names tok) (record { command = c.count + 1; at = at; rule = code })
-breaks_lists tokens c tok code at f fault place = record {
-  lists = f.lists;
-  commands = f.commands;
-  env = environment_of c.names c.scope;
+breaks_lists tokens c tok code at w fault place = record {
+  lists = w.follows.lists;
+  commands = w.follows.commands;
+  env = environment_of w.follows.names c.scope;
   unfinished = texts_of c.names c.builder.0;
-  reads = f.reads;
-  steps = f.steps;
-  number = ap (λ (n : ℕ). n + 1) f.counted;
+  reads = w.follows.reads;
+  runs = w.follows.runs;
+  number = ap (λ (n : ℕ). n + 1) w.follows.counted;
   fault = inl (fault_told c.names c.builder.0 tok code fault, place);
 }
 
 -- the next token completes a list that breaks a rule
-pub breaks_command : (tokens : List Token) (c : Checker) (tok : Tok) (t : Sexp Tok) (refusal : Refusal) → Follows tokens c → IsList t → flat t ≡ c.builder.0 ++ flat_tok tok ∷ []
-    → CommandFault (environment_of c.names c.scope) (sexp_of c.names t) (place_of refusal) → refusal.command ≡ c.count + 1 → TokenBreaks tokens (token_of c.names tok) refusal
-breaks_command tokens c tok t refusal f is_list e fault number = record {
-  lists = f.lists;
-  commands = f.commands;
-  env = environment_of c.names c.scope;
+pub breaks_command : (tokens : List Token) (c : Checker) (tok : Tok) (t : Sexp Tok) (refusal : Refusal) → Awaits tokens (token_of c.names tok ∷ []) c → IsNameTable c.names → tok.name < length c.names
+    → IsList t → flat t ≡ c.builder.0 ++ flat_tok tok ∷ []
+    → judge_tree (environment_of c.names c.scope) t [] (ill_sorted (place_of refusal)) → refusal.command ≡ c.count + 1 → TokenBreaks tokens (token_of c.names tok) refusal
+breaks_command tokens c tok t refusal w table named is_list e fault number = record {
+  lists = w.follows.lists;
+  commands = w.follows.commands;
+  env = environment_of w.follows.names c.scope;
   unfinished = texts_of c.names c.builder.0;
-  reads = f.reads;
-  steps = f.steps;
-  number = number ∙ ap (λ (n : ℕ). n + 1) f.counted;
-  fault = inr (sexp_of c.names t, is_list_told c.names t is_list, told_list c.names c.builder.0 tok t e, fault);
+  reads = w.follows.reads;
+  runs = w.follows.runs;
+  number = number ∙ ap (λ (n : ℕ). n + 1) w.follows.counted;
+  fault = inr (sexp_of c.names t, is_list_told c.names t is_list, told_list c.names c.builder.0 tok t e,
+      judged_told w.known tokens c tok t (ill_sorted (place_of refusal)) w.follows w.names table named e fault);
 }
 
 -- a table that grows
@@ -163,43 +218,42 @@ grown_interned old new (Opening at ∷ u) e h = grown_interned old new u e h
 grown_interned old new (Closing ∷ u) e h = grown_interned old new u e h
 grown_interned old new (Word a ∷ u) e h = (number_kept old new a.name e h.0, grown_interned old new u e h.1)
 
-grown_declared : (old new : List (List ℕ)) (ids : List ℕ) → ExtendsTable old new → AllNamed old ids → (map (text_at new) ids ≡ map (text_at old) ids) × AllNamed new ids
-grown_declared old new [] e h = (refl, tt)
-grown_declared old new (id ∷ ids) e h =
-    let rest = grown_declared old new ids e h.1 in
-    (ap (λ (t : List ℕ). t ∷ map (text_at new) ids) (text_kept old new id e h.0) ∙ ap (λ (ts : List (List ℕ)). text_at old id ∷ ts) rest.0, (number_kept old new id e h.0, rest.1))
-
-pub follows_grown : (tokens : List Token) (c : Checker) (new : List (List ℕ)) (lexer : Option LexerState) → ExtendsTable c.names new → Follows tokens c → Follows tokens (record c { names = new; lexer = lexer })
-follows_grown tokens c new lexer e f =
-    let declared = grown_declared c.names new c.scope.declared.items e f.declared in
-    let env : environment_of new c.scope ≡ environment_of c.names c.scope = ap (λ (ts : List (List ℕ)). record { logic = c.scope.logic; declared = ts }) declared.0 in
-    record {
+pub follows_grown : (known : List (List ℕ)) (tokens : List Token) (c : Checker) (new : List (List ℕ)) (lexer : Option LexerState) → ExtendsTable c.names new → Follows known tokens c
+    → Follows known tokens (record c { names = new; lexer = lexer })
+follows_grown known tokens c new lexer e f =
+    let same : texts_of new c.builder.0 ≡ texts_of c.names c.builder.0 = grown_texts c.names new c.builder.0 e f.interned in record {
       lists = f.lists;
       commands = f.commands;
-      reads = subst (λ (fs : List (FlatToken Token)). Reads (flat_tokens tokens) f.lists fs) (sym (grown_texts c.names new c.builder.0 e f.interned)) f.reads;
+      names = f.names;
+      reads = subst (λ (fs : List (FlatToken Token)). Reads (flat_tokens tokens) f.lists fs) (sym same) f.reads;
       no_error = f.no_error;
-      steps = subst (λ (v : Environment). StepThrough empty f.lists f.commands v) (sym env) f.steps;
+      runs = f.runs;
       counted = f.counted;
       interned = grown_interned c.names new c.builder.0 e f.interned;
-      declared = declared.1;
+      table = f.table ∙ ap (λ (fs : List (FlatToken Token)). table_after f.names fs) (sym same);
     }
 
 -- nothing was taken yet
-pub starts : (c : Checker) → c.builder ≡ ([], None) → c.scope.logic ≡ false → c.scope.declared.items ≡ [] → c.count ≡ 0 → HasRead [] [] c.lexer → length c.names ≤ 57 → HasTaken [] c
-starts c builder logic declared count read names = record {
+pub starts : (c : Checker) → c.builder ≡ ([], None) → c.scope.logic ≡ false → c.scope.declared.items ≡ [] → c.count ≡ 0 → HasRead [] [] c.lexer → c.names ≡ fixed_texts → IsNameTable c.names
+    → length c.names ≤ 57 → HasTaken [] c
+starts c builder logic declared count read names table few = record {
   tokens = [];
   read = read;
   follows = record {
     lists = [];
     commands = [];
+    names = c.names;
     reads = subst (λ (s : State). Reads [] [] (texts_of c.names s.0)) (sym builder) reads_nothing;
     no_error = ap (λ (s : State). s.1) builder;
-    steps = ap (λ (b : Bool). record { logic = b; declared = map (text_at c.names) c.scope.declared.items }) logic
-        ∙ ap (λ (ids : List ℕ). record { logic = false; declared = map (text_at c.names) ids }) declared;
+    runs = ap (λ (e : Environment). record { commands = []; env = e; cause = all_taken })
+        (ap (λ (ns : List (List ℕ)). record { names = ns; logic = c.scope.logic; declared = c.scope.declared.items }) names
+        ∙ (ap (λ (b : Bool). record { names = fixed_texts; logic = b; declared = c.scope.declared.items }) logic
+        ∙ ap (λ (ids : List ℕ). record { names = fixed_texts; logic = false; declared = ids }) declared));
     counted = count;
     interned = subst (λ (s : State). AreInterned c.names s.0) (sym builder) tt;
-    declared = subst (λ (ids : List ℕ). AllNamed c.names ids) (sym declared) tt;
+    table = subst (λ (s : State). c.names ≡ table_after c.names (texts_of c.names s.0)) (sym builder) refl;
   };
-  few_names = omega (arith, names);
+  table = table;
+  few_names = omega (arith, few);
   few_commands = omega (arith, count);
 }

@@ -1,12 +1,13 @@
 -- From a checker that takes bytes to what is said of the text.
-use Rattle.std.proofs.Common.{◌≡◌, ℕ, ◌+◌, ◌<◌, ◌≤◌, ◌^◌, false, List, [], ◌∷◌, ◌++◌, length, take, drop, get_or, Err, sym, ◌∙◌, ap, subst, append_assoc, append-nil, arith}
+use Rattle.std.proofs.Common.{◌≡◌, ℕ, ◌+◌, ◌<◌, ◌≤◌, ◌^◌, Bool, true, false, List, [], ◌∷◌, ◌++◌, length, take, drop, get_or, Err, sym, ◌∙◌, ap, subst, append_assoc, append-nil, arith}
 use Rattle.std.proofs.lemmas.List.{length-append, length-take-le, take_more, take-append-drop}
 use Rattle.script_core.specs.declared.checker.Checker.{Checker}
 use Rattle.script_core.specs.declared.refusal.Stop.{Stop}
 use Rattle.script_core.specs.declared.refusal.Stop.TheVariants.{Refused, NoMemory}
 use Rattle.script_core.specs.Acceptance.{Refuses}
-use Rattle.script_core.specs.Checking.{HasTaken, IfRefused, RefusesByte, RefusesBytes, TakesByte, TakesBytes}
+use Rattle.script_core.specs.Checking.{ExitsByte, ExitsBytes, HasExited, HasTaken, IfRefused, RefusesByte, RefusesBytes, SofarCount, TakesByte, TakesBytes}
 use Rattle.script_core.specs.Judging.{Answers}
+use Rattle.script_core.specs.SessionState.{IsGiven, SessionState, Stands}
 
 pub takes_nothing : (c : Checker) → TakesBytes c [] c
 takes_nothing c bytes h = subst (λ (xs : List ℕ). HasTaken xs c) (sym (append-nil bytes)) h
@@ -23,18 +24,26 @@ takes_more old c new piece i inside before next bytes h =
     append_assoc bytes (take i piece) (get_or piece i 0 ∷ []) ∙ ap (λ (xs : List ℕ). bytes ++ xs) (sym (take_more piece i 0 inside)) in
     subst (λ (xs : List ℕ). HasTaken xs new) same (next (bytes ++ take i piece) (before bytes h))
 
+-- the chunk, as the bytes before one of them, that one and those after it
+split_at : (bytes piece more : List ℕ) (i : ℕ) → i < length piece → ((bytes ++ take i piece) ++ get_or piece i 0 ∷ []) ++ (drop (i + 1) piece ++ more) ≡ (bytes ++ piece) ++ more
+split_at bytes piece more i inside =
+    let whole : take i piece ++ get_or piece i 0 ∷ drop (i + 1) piece ≡ piece =
+    sym (append_assoc (take i piece) (get_or piece i 0 ∷ []) (drop (i + 1) piece)) ∙ ap (λ (xs : List ℕ). xs ++ drop (i + 1) piece) (sym (take_more piece i 0 inside)) ∙ take-append-drop (i + 1) piece in
+    append_assoc (bytes ++ take i piece) (get_or piece i 0 ∷ []) (drop (i + 1) piece ++ more)
+    ∙ sym (append_assoc (bytes ++ take i piece) (get_or piece i 0 ∷ drop (i + 1) piece) more)
+    ∙ ap (λ (xs : List ℕ). xs ++ more) (append_assoc bytes (take i piece) (get_or piece i 0 ∷ drop (i + 1) piece) ∙ ap (λ (xs : List ℕ). bytes ++ xs) whole)
+
 -- a byte of the chunk is the first that shows a fault
 pub byte_refused : (old c : Checker) (piece : List ℕ) (i : ℕ) (stop : Stop) → i < length piece → TakesBytes old (take i piece) c
     → IfRefused stop (RefusesByte c (get_or piece i 0)) → IfRefused stop (RefusesBytes old piece)
 byte_refused old c piece i NoMemory inside before refuses = tt
 byte_refused old c piece i (Refused refusal) inside before refuses = λ bytes more ended h.
-    let whole : take i piece ++ get_or piece i 0 ∷ drop (i + 1) piece ≡ piece =
-    sym (append_assoc (take i piece) (get_or piece i 0 ∷ []) (drop (i + 1) piece)) ∙ ap (λ (xs : List ℕ). xs ++ drop (i + 1) piece) (sym (take_more piece i 0 inside)) ∙ take-append-drop (i + 1) piece in
-    let split : ((bytes ++ take i piece) ++ get_or piece i 0 ∷ []) ++ (drop (i + 1) piece ++ more) ≡ (bytes ++ piece) ++ more =
-    append_assoc (bytes ++ take i piece) (get_or piece i 0 ∷ []) (drop (i + 1) piece ++ more)
-    ∙ sym (append_assoc (bytes ++ take i piece) (get_or piece i 0 ∷ drop (i + 1) piece) more)
-    ∙ ap (λ (xs : List ℕ). xs ++ more) (append_assoc bytes (take i piece) (get_or piece i 0 ∷ drop (i + 1) piece) ∙ ap (λ (xs : List ℕ). bytes ++ xs) whole) in
-    subst (λ (xs : List ℕ). Refuses xs ended refusal) split (refuses (bytes ++ take i piece) (drop (i + 1) piece ++ more) ended (before bytes h))
+    subst (λ (xs : List ℕ). Refuses xs ended refusal) (split_at bytes piece more i inside) (refuses (bytes ++ take i piece) (drop (i + 1) piece ++ more) ended (before bytes h))
+
+-- a byte of the chunk ends the script
+pub byte_ends : (old c : Checker) (piece : List ℕ) (i count : ℕ) → i < length piece → TakesBytes old (take i piece) c → ExitsByte c (get_or piece i 0) count → ExitsBytes old piece count
+byte_ends old c piece i count inside before ends bytes h more ended =
+    subst (λ (xs : List ℕ). SofarCount xs ended count) (split_at bytes piece more i inside) (ends (bytes ++ take i piece) (before bytes h) (drop (i + 1) piece ++ more) ended)
 
 -- the answer to a chunk that is refused
 pub feed_refused : (A : Type 0) (bytes piece : List ℕ) (c : Checker) (count : ℕ) (stop : Stop) → HasTaken bytes c
@@ -44,3 +53,24 @@ feed_refused A bytes piece c count (Refused refusal) h refuses number = record {
   refuses = subst (λ (xs : List ℕ). Refuses xs false refusal) (append-nil (bytes ++ piece)) (refuses bytes [] false h);
   counted = number;
 }
+
+-- what was accepted up to an `exit` stays so where more bytes come
+pub exited_more : (bytes piece : List ℕ) (count : ℕ) → HasExited bytes count → HasExited (bytes ++ piece) count
+exited_more bytes piece count x more ended = subst (λ (xs : List ℕ). SofarCount xs ended count) (sym (append_assoc bytes piece more)) (x (piece ++ more) ended)
+
+pub exited_now : (bytes : List ℕ) (ended : Bool) (count : ℕ) → HasExited bytes count → SofarCount bytes ended count
+exited_now bytes ended count x = subst (λ (xs : List ℕ). SofarCount xs ended count) (append-nil bytes) (x [] ended)
+
+-- before an `exit` a session stands where its checker does, and after one where the script ended
+pub stands_taken : (ended : Bool) (bytes : List ℕ) (c : Checker) → ended ≡ false → Stands ended bytes c → HasTaken bytes c
+stands_taken ended bytes c e s = subst (λ (b : Bool). Stands b bytes c) e s
+
+pub taken_stands : (ended : Bool) (bytes : List ℕ) (c : Checker) → ended ≡ false → HasTaken bytes c → Stands ended bytes c
+taken_stands ended bytes c e h = subst (λ (b : Bool). Stands b bytes c) (sym e) h
+
+pub stands_exited : (ended : Bool) (bytes : List ℕ) (c : Checker) → ended ≡ true → Stands ended bytes c → HasExited bytes c.count
+stands_exited ended bytes c e s = subst (λ (b : Bool). Stands b bytes c) e s
+
+-- what stands of the fields of a session
+pub given_stands : (fields session : SessionState) (bytes : List ℕ) → fields ≡ session → IsGiven bytes session → Stands fields.ended bytes fields.checker
+given_stands fields session bytes e g = subst (λ (s : SessionState). Stands s.ended bytes s.checker) (sym e) g.stands

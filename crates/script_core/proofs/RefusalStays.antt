@@ -1,13 +1,14 @@
 -- A refusal that is seen before the end stays, whatever comes after.
-use Rattle.std.proofs.Common.{◌≡◌, ℕ, ◌+◌, Bool, true, false, List, [], ◌∷◌, ◌++◌, length, Option, Some, refl, sym, ◌∙◌, ap, subst, append_assoc, append-nil, inl, inr}
+use Rattle.std.proofs.Common.{◌≡◌, ℕ, Bool, true, false, List, [], ◌∷◌, ◌++◌, ◌+◌, length, Option, None, Some, refl, sym, ◌∙◌, ap, subst, append_assoc, append-nil}
 use Rattle.lex_core.specs.Token.{Token}
 use Rattle.lex_core.specs.declared.place.Place.{Place}
 use Rattle.sexp_core.specs.Sexp.{Sexp}
 use Rattle.script_core.specs.declared.refusal.Refusal.{Refusal}
-use Rattle.script_core.specs.Acceptance.{FirstFault, Refuses, TextFault, place_of}
-use Rattle.script_core.specs.Command.{Command}
-use Rattle.script_core.specs.Steps.{Environment, StepThrough, empty}
+use Rattle.script_core.specs.Acceptance.{IsFirstFault, Refuses, TextFault, place_of}
+use Rattle.script_core.specs.Environment.{start}
+use Rattle.script_core.specs.Steps.{Cause, all_taken, exited, broken, Run, Runs}
 use Rattle.script_core.specs.Text.{AllRead, Broken, BreaksAt, Faulty, GoesOn, HasLists, HasTokens, ListsEnd, Unfinished, Whole}
+use Rattle.script_core.proofs.Running.{runs_stay}
 use Rattle.script_core.proofs.TextLists.{ListsFrom, lists_from}
 use Rattle.script_core.proofs.TextTokens.{complete_state, fault_stays, tokens_from}
 
@@ -30,62 +31,74 @@ lists_stay tokens later lists rest (BreaksAt here before next after u e reads fa
 }
 
 same_fault : (early ended : Bool) (fault place : Place) (rest : ListsEnd) → TextFault early (Some fault) rest place → TextFault ended (Some fault) rest place
-same_fault early ended fault place (Broken broken) f = f
+same_fault early ended fault place (Broken at) f = f
 same_fault early ended fault place (Unfinished tokens) f = f
 
-stays_from : (bytes more : List ℕ) (early ended : Bool) (tokens : List Token) (fault : Option Place) (lists : List (Sexp Token)) (rest : ListsEnd) (before : List (Sexp Token)) (commands : List Command) (env : Environment) (r : Refusal)
-    → early ≡ false → HasTokens bytes tokens early fault → HasLists tokens lists rest → StepThrough empty before commands env → r.command ≡ length commands + 1 → FirstFault early fault lists before rest env (place_of r)
-    → Refuses (bytes ++ more) ended r
-stays_from bytes more early ended tokens fault lists rest before commands env r e (Whole l) has steps number first = let k : true ≡ false = e in cc
-stays_from bytes more early ended tokens fault lists rest before commands env r e (Faulty place shows) has steps number first = record {
-  tokens = tokens;
-  fault = Some place;
-  lists = lists;
-  rest = rest;
-  before = before;
-  commands = commands;
-  env = env;
-  has_tokens = Faulty place (fault_stays bytes tokens early place.at place.code more ended e shows);
-  has_lists = has;
-  steps = steps;
+-- a first fault that is seen before the end is one whatever comes after it
+first_stays : (early ended : Bool) (fault : Place) (rest : ListsEnd) (cause : Cause) (place : Place) → IsFirstFault early (Some fault) rest cause place → IsFirstFault ended (Some fault) rest cause place
+first_stays early ended fault rest exited place f = f
+first_stays early ended fault rest all_taken place f = same_fault early ended fault place rest f
+first_stays early ended fault rest (broken here) place f = f
+
+-- where the text goes on, the fault is that of a command, or of a token that breaks a rule of lists
+goes_on : (bytes more : List ℕ) (ended : Bool) (tokens : List Token) (lists : List (Sexp Token)) (rest : ListsEnd) (run : Run) (r : Refusal) (cause : Cause)
+    → cause ≡ run.cause → (later : List Token) (fault : Option Place) → HasTokens (bytes ++ more) (tokens ++ later) ended fault → HasLists tokens lists rest → Runs start lists run
+    → r.command ≡ length run.commands + 1 → IsFirstFault false None rest cause (place_of r) → Refuses (bytes ++ more) ended r
+goes_on bytes more ended tokens lists rest run r exited e later fault has_tokens has runs number first = absurd first
+goes_on bytes more ended tokens lists (Unfinished u) run r all_taken e later fault has_tokens has runs number first = absurd first
+goes_on bytes more ended tokens lists (Broken place) run r all_taken e later fault has_tokens has runs number first = record {
+  fault = fault;
+  rest = Broken place;
+  run = run;
+  judged = record {
+    tokens = tokens ++ later;
+    lists = lists;
+    has_tokens = has_tokens;
+    has_lists = broken_stays tokens later lists (Broken place) place refl has;
+    runs = runs;
+  };
   number = number;
-  first_fault = elim first [ inl command ↦ inl command | inr text ↦ inr (text.0, same_fault early ended place (place_of r) rest text.1) ];
+  first_fault = subst (λ (c : Cause). IsFirstFault ended fault (Broken place) c (place_of r)) e first;
 }
-stays_from bytes more early ended tokens fault lists rest before commands env r e (GoesOn complete) has steps number (inl (t, after, split, breaks)) =
+goes_on bytes more ended tokens lists rest run r (broken here) e later fault has_tokens has runs number first =
+    let on = lists_stay tokens later lists rest has in record {
+      fault = fault;
+      rest = on.rest;
+      run = run;
+      judged = record {
+        tokens = tokens ++ later;
+        lists = lists ++ on.more;
+        has_tokens = has_tokens;
+        has_lists = on.has_lists;
+        runs = runs_stay lists on.more start run runs (λ all. let k : broken here ≡ all_taken = e ∙ all in cc);
+      };
+      number = number;
+      first_fault = subst (λ (c : Cause). IsFirstFault ended fault on.rest c (place_of r)) e first;
+    }
+
+stays_from : (bytes more : List ℕ) (early ended : Bool) (fault : Option Place) (rest : ListsEnd) (run : Run) (tokens : List Token) (lists : List (Sexp Token)) (r : Refusal)
+    → early ≡ false → HasTokens bytes tokens early fault → HasLists tokens lists rest → Runs start lists run → r.command ≡ length run.commands + 1 → IsFirstFault early fault rest run.cause (place_of r)
+    → Refuses (bytes ++ more) ended r
+stays_from bytes more early ended fault rest run tokens lists r e (Whole l) has runs number first = let k : true ≡ false = e in cc
+stays_from bytes more early ended fault rest run tokens lists r e (Faulty place shows) has runs number first = record {
+  fault = Some place;
+  rest = rest;
+  run = run;
+  judged = record {
+    tokens = tokens;
+    lists = lists;
+    has_tokens = Faulty place (fault_stays bytes tokens early place.at place.code more ended e shows);
+    has_lists = has;
+    runs = runs;
+  };
+  number = number;
+  first_fault = first_stays early ended place rest run.cause (place_of r) first;
+}
+stays_from bytes more early ended fault rest run tokens lists r e (GoesOn complete) has runs number first =
     let p = complete_state bytes tokens complete in
     let from = tokens_from more bytes tokens p.0 ended p.1 in
-    let on = lists_stay tokens from.later lists rest has in record {
-      tokens = tokens ++ from.later;
-      fault = from.fault;
-      lists = lists ++ on.more;
-      rest = on.rest;
-      before = before;
-      commands = commands;
-      env = env;
-      has_tokens = from.has_tokens;
-      has_lists = on.has_lists;
-      steps = steps;
-      number = number;
-      first_fault = inl (t, after ++ on.more, ap (λ (ls : List (Sexp Token)). ls ++ on.more) split ∙ append_assoc before (t ∷ after) on.more, breaks);
-    }
-stays_from bytes more early ended tokens fault lists (Unfinished u) before commands env r e (GoesOn complete) has steps number (inr (same, text)) = absurd text
-stays_from bytes more early ended tokens fault lists (Broken place) before commands env r e (GoesOn complete) has steps number (inr (same, text)) =
-    let p = complete_state bytes tokens complete in
-    let from = tokens_from more bytes tokens p.0 ended p.1 in record {
-      tokens = tokens ++ from.later;
-      fault = from.fault;
-      lists = lists;
-      rest = Broken place;
-      before = before;
-      commands = commands;
-      env = env;
-      has_tokens = from.has_tokens;
-      has_lists = broken_stays tokens from.later lists (Broken place) place refl has;
-      steps = steps;
-      number = number;
-      first_fault = inr (same, text);
-    }
+    goes_on bytes more ended tokens lists rest run r run.cause refl from.later from.fault from.has_tokens has runs number first
 
 pub refusal_stays : (bytes more : List ℕ) (ended : Bool) (r : Refusal) → Refuses bytes false r → Refuses (bytes ++ more) ended r
 refusal_stays bytes more ended r y =
-    stays_from bytes more false ended y.tokens y.fault y.lists y.rest y.before y.commands y.env r refl y.has_tokens y.has_lists y.steps y.number y.first_fault
+    stays_from bytes more false ended y.fault y.rest y.run y.judged.tokens y.judged.lists r refl y.judged.has_tokens y.judged.has_lists y.judged.runs y.number y.first_fault

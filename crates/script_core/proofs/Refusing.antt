@@ -1,4 +1,4 @@
--- From the first token that breaks a rule, or the fault of the text, to the refusal of the whole text.
+-- From the first token that breaks a rule, the fault of the text, or an accepted `exit`, to the answer on the whole text.
 use Rattle.std.proofs.Common.{◌≡◌, ℕ, ◌+◌, ◌≤◌, Bool, List, [], ◌∷◌, ◌++◌, length, Option, None, Some, refl, sym, ◌∙◌, ap, subst, append_assoc, length-append, inl, inr, arith}
 use Rattle.std.proofs.lemmas.List.{length-map}
 use Rattle.lex_core.specs.Lexeme.{AreLexemes, CloseParen, Comment, Lexeme, OpenParen, QuotedSymbol, StringLiteral, WhiteSpace, Word as WordLexeme, joined_text, lexeme_tokens, quotes_doubled}
@@ -15,45 +15,47 @@ use Rattle.sexp_core.specs.Sexp.{map_flat}
 use Rattle.sexp_core.specs.Tokens.{flat_token, flat_tokens}
 use Rattle.script_core.specs.declared.checker.Checker.{Checker}
 use Rattle.script_core.specs.declared.refusal.Refusal.{Refusal}
-use Rattle.script_core.specs.Acceptance.{Refuses, place_of}
-use Rattle.script_core.specs.Checking.{BreaksAmong, Follows, TokenBreaks}
-use Rattle.script_core.specs.Interned.{environment_of}
+use Rattle.script_core.specs.Acceptance.{IsFaultless, Refuses, place_of}
+use Rattle.script_core.specs.Checking.{BreaksAmong, Exits, Follows, HasTokensOf, SofarCount, TokenBreaks, environment_of, texts_of}
+use Rattle.script_core.specs.Environment.{start}
+use Rattle.script_core.specs.Steps.{Cause, all_taken, broken, exited}
 use Rattle.script_core.specs.Text.{AllRead, Broken, BreaksAt, HasLists, HasTokens, Unfinished}
-use Rattle.script_core.proofs.FollowingTokens.{texts_of}
+use Rattle.script_core.proofs.Running.{all_of, next_breaks, runs_stay}
 use Rattle.script_core.proofs.TextLists.{length-flat_tokens, lists_from, one_token}
 
 -- a token that breaks a rule refuses the text, whatever comes after it
 token_refuses : (bytes : List ℕ) (ended : Bool) (before : List Token) (next : Token) (after : List Token) (fault : Option Place) (refusal : Refusal)
     → HasTokens bytes (before ++ next ∷ after) ended fault → TokenBreaks before next refusal → Refuses bytes ended refusal
 token_refuses bytes ended before next after fault refusal has b = elim (b.fault) [
-  | inl broken ↦ record {
-    tokens = before ++ next ∷ after;
+  | inl broken_list ↦ record {
     fault = fault;
-    lists = b.lists;
     rest = Broken (place_of refusal);
-    before = b.lists;
-    commands = b.commands;
-    env = b.env;
-    has_tokens = has;
-    has_lists = BreaksAt (place_of refusal) before next after b.unfinished refl b.reads broken.0 broken.1;
-    steps = b.steps;
+    run = all_of b.commands b.env;
+    judged = record {
+      tokens = before ++ next ∷ after;
+      lists = b.lists;
+      has_tokens = has;
+      has_lists = BreaksAt (place_of refusal) before next after b.unfinished refl b.reads broken_list.0 broken_list.1;
+      runs = b.runs;
+    };
     number = b.number;
-    first_fault = inr (refl, refl);
+    first_fault = refl;
   }
   | inr command ↦ let reads = one_token before next (b.lists ++ command.0 ∷ []) [] (reads_list (flat_tokens before) b.lists b.unfinished (flat_token next) command.0 b.reads command.1 command.2) in
       let from = lists_from after (before ++ next ∷ []) (b.lists ++ command.0 ∷ []) [] reads in record {
-        tokens = before ++ next ∷ after;
         fault = fault;
-        lists = (b.lists ++ command.0 ∷ []) ++ from.more;
         rest = from.rest;
-        before = b.lists;
-        commands = b.commands;
-        env = b.env;
-        has_tokens = has;
-        has_lists = subst (λ (ts : List Token). HasLists ts ((b.lists ++ command.0 ∷ []) ++ from.more) from.rest) (append_assoc before (next ∷ []) after) from.has_lists;
-        steps = b.steps;
+        run = record { commands = b.commands; env = b.env; cause = broken (place_of refusal) };
+        judged = record {
+          tokens = before ++ next ∷ after;
+          lists = (b.lists ++ command.0 ∷ []) ++ from.more;
+          has_tokens = has;
+          has_lists = subst (λ (ts : List Token). HasLists ts ((b.lists ++ command.0 ∷ []) ++ from.more) from.rest) (append_assoc before (next ∷ []) after) from.has_lists;
+          runs = runs_stay (b.lists ++ command.0 ∷ []) from.more start (record { commands = b.commands; env = b.env; cause = broken (place_of refusal) })
+              (next_breaks b.lists command.0 start b.env b.commands (place_of refusal) b.runs command.3) (λ e. cc);
+        };
         number = b.number;
-        first_fault = inl (command.0, from.more, append_assoc b.lists (command.0 ∷ []) from.more, command.3);
+        first_fault = refl;
       }
 ]
 
@@ -66,22 +68,46 @@ refuses_among bytes ended tokens new later fault refusal has b =
     token_refuses bytes ended (tokens ++ b.front) b.next (b.back ++ later) fault refusal (subst (λ (ts : List Token). HasTokens bytes ts ended fault) split has) b.breaks
 
 -- a fault of the lexicon after tokens that broke no rule
-pub fault_refuses : (bytes : List ℕ) (ended : Bool) (tokens : List Token) (c : Checker) (place : Place) → HasTokens bytes tokens ended (Some place) → Follows tokens c
+pub fault_refuses : (bytes : List ℕ) (ended : Bool) (tokens : List Token) (c : Checker) (place : Place) → HasTokens bytes tokens ended (Some place) → HasTokensOf tokens c
     → Refuses bytes ended (record { command = c.count + 1; at = place.at; rule = place.code })
 fault_refuses bytes ended tokens c place has f = record {
-  tokens = tokens;
   fault = Some place;
-  lists = f.lists;
   rest = Unfinished (texts_of c.names c.builder.0);
-  before = f.lists;
-  commands = f.commands;
-  env = environment_of c.names c.scope;
-  has_tokens = has;
-  has_lists = AllRead (texts_of c.names c.builder.0) f.reads;
-  steps = f.steps;
+  run = all_of f.commands (environment_of f.names c.scope);
+  judged = record {
+    tokens = tokens;
+    lists = f.lists;
+    has_tokens = has;
+    has_lists = AllRead (texts_of c.names c.builder.0) f.reads;
+    runs = f.runs;
+  };
   number = ap (λ (n : ℕ). n + 1) f.counted;
-  first_fault = inr (refl, refl);
+  first_fault = refl;
 }
+
+-- an accepted `exit` ends the script, whatever comes after it
+pub exits_in : (bytes : List ℕ) (ended : Bool) (tokens later : List Token) (fault : Option Place) (count : ℕ) → HasTokens bytes (tokens ++ later) ended fault → Exits tokens count
+    → SofarCount bytes ended count
+exits_in bytes ended tokens later fault count has x =
+    let from = lists_from (x.back ++ later) x.front x.lists [] x.reads in
+    let split : tokens ++ later ≡ x.front ++ (x.back ++ later) = ap (λ (ts : List Token). ts ++ later) x.spelled ∙ append_assoc x.front x.back later in record {
+      commands = x.run.commands;
+      sofar = record {
+        fault = fault;
+        rest = from.rest;
+        run = x.run;
+        judged = record {
+          tokens = x.front ++ (x.back ++ later);
+          lists = x.lists ++ from.more;
+          has_tokens = subst (λ (ts : List Token). HasTokens bytes ts ended fault) split has;
+          has_lists = from.has_lists;
+          runs = runs_stay x.lists from.more start x.run x.runs (λ e. let k : exited ≡ all_taken = sym x.ends ∙ e in cc);
+        };
+        accepted = refl;
+        faultless = subst (λ (cause : Cause). IsFaultless ended fault from.rest cause) (sym x.ends) tt;
+      };
+      counted = x.counted;
+    }
 
 -- every lexeme has bytes, so there are no more tokens than bytes
 word_has_bytes : (k : TokKind) (bs : List ℕ) → WordSpells k bs → 1 ≤ length bs
@@ -112,6 +138,6 @@ few_tokens bytes tokens None h = absurd h
 few_tokens bytes tokens (Some p) h =
     omega (arith, ap length h.in_order, length-lexeme_tokens h.lexemes h.segmentation.whole, ap length h.segmentation.spelled, length-append (joined_text h.lexemes) (partial_text h.partial))
 
-pub few_unfinished : (tokens : List Token) (c : Checker) → Follows tokens c → length c.builder.0 ≤ length tokens
-few_unfinished tokens c f =
+pub few_unfinished : (known : List (List ℕ)) (tokens : List Token) (c : Checker) → Follows known tokens c → length c.builder.0 ≤ length tokens
+few_unfinished known tokens c f =
     omega (arith, length-unfinished (flat_tokens tokens) f.lists (texts_of c.names c.builder.0) f.reads, length-map c.builder.0 (map_flat (token_of c.names)), length-flat_tokens tokens)

@@ -1,25 +1,32 @@
 -- The answers of a builder, as a checker sees them.
-use Rattle.std.proofs.Common.{◌≡◌, ℕ, ◌+◌, ◌<◌, List, [], ◌∷◌, ◌++◌, length, Option, None, Some, Result, Ok, Err, refl, sym, ◌∙◌, ap, subst, append_assoc, append-nil}
-use Rattle.std.specs.Prelude.{IfErr, IfSome, OnOk}
-use Rattle.lex_core.specs.Token.{Token, fed_tokens, option_tokens, token_of}
+use Rattle.std.proofs.Common.{◌≡◌, ℕ, ◌+◌, ◌<◌, true, List, [], ◌∷◌, ◌++◌, length, Option, None, Some, Result, Ok, Err, refl, sym, ◌∙◌, ap, subst, append_assoc, append-nil}
+use Rattle.std.specs.Prelude.{IfErr, IfOk, IfSome, OnOk}
+use Rattle.std.specs.List.{list_any}
+use Rattle.std.specs.Str.{bytes_eq}
+use Rattle.lex_core.specs.NameTable.{IsNameTable}
+use Rattle.lex_core.specs.Token.{IsInterned, Token, fed_tokens, option_tokens, token_of}
 use Rattle.lex_core.specs.declared.lexer.Fed.{Fed}
 use Rattle.lex_core.specs.declared.place.Place.{Place}
 use Rattle.lex_core.specs.declared.token.Tok.{Tok}
+use Rattle.lex_core.specs.declared.token.TokKind.{TokKind}
+use Rattle.lex_core.specs.declared.token.TokKind.TheVariants as kind
 use Rattle.sig_table.specs.declared.code.Code.{Code}
 use Rattle.sexp_core.specs.Builder.{IsTreeError, State, fault_at}
 use Rattle.sexp_core.specs.Reading.{IsList, IsUnfinished, TreeFault}
 use Rattle.sexp_core.specs.Sexp.{Sexp, flat}
-use Rattle.sexp_core.specs.Tokens.{flat_tok}
+use Rattle.sexp_core.specs.Tokens.{flat_of, flat_tok, flat_tokens}
 use Rattle.sexp_core.specs.declared.builder.SexpError.{SexpError}
 use Rattle.sexp_core.specs.declared.builder.SexpError.TheVariants as error
 use Rattle.script_core.specs.declared.checker.Checker.{Checker}
+use Rattle.script_core.specs.declared.refusal.Progress.{Progress}
+use Rattle.script_core.specs.declared.refusal.Progress.TheVariants as progress
 use Rattle.script_core.specs.declared.refusal.Refusal.{Refusal}
 use Rattle.script_core.specs.declared.refusal.Stop.{Stop}
 use Rattle.script_core.specs.declared.refusal.Stop.TheVariants.{Refused, NoMemory}
-use Rattle.script_core.specs.Acceptance.{CommandFault, place_of}
-use Rattle.script_core.specs.Checking.{BreaksAmong, Follows, IfRefused, TokenBreaks}
-use Rattle.script_core.specs.Interned.{AllNamed, AreInterned, ListSteps, environment_of, sexp_of}
-use Rattle.script_core.proofs.FollowingTokens.{breaks_command, breaks_lists, follows_inside, follows_list, interned_last}
+use Rattle.script_core.specs.Checking.{Awaits, BreaksAmong, BreaksTree, BreaksWith, BreaksWithin, Exits, ExitsWithin, HasTokensOf, IfEnded, IfMore, IfRefused, TakesTokens, TakesTree, TokenBreaks, environment_of}
+use Rattle.script_core.specs.Numbering.{table_after}
+use Rattle.script_core.proofs.FollowingTokens.{breaks_command, breaks_lists, exits_list, follows_inside, follows_list}
+use Rattle.script_core.proofs.NameTables.{name_in_table}
 
 some_of : {A : Type 0} (P : A → Type 0) (o : Option A) (t : A) → o ≡ Some t → IfSome o P → P t
 some_of {A} P o t e h = subst (λ (x : Option A). IfSome x P) e h
@@ -28,53 +35,54 @@ some_of {A} P o t e h = subst (λ (x : Option A). IfSome x P) e h
 abbrev pub IsTaken : Checker → Tok → Sexp Tok → Type 0
 IsTaken c tok t = IsList t × (flat t ≡ c.builder.0 ++ flat_tok tok ∷ [])
 
-pub tree_interned : (tokens : List Token) (c : Checker) (tok : Tok) (o : Option (Sexp Tok)) (t : Sexp Tok) → Follows tokens c → tok.name < length c.names → o ≡ Some t
-    → (c.builder.1 ≡ None → IfSome o (IsTaken c tok)) → AreInterned c.names (flat t)
-tree_interned tokens c tok o t f named e tree =
-    let taken = some_of (IsTaken c tok) o t e (tree f.no_error) in rw (taken.1) (interned_last c.names c.builder.0 tok f.interned named)
-
-pub taken_inside : (tokens : List Token) (c : Checker) (tok : Tok) (new : State) (o : Option (Sexp Tok)) → Follows tokens c → tok.name < length c.names → o ≡ None → IsUnfinished new.0
+pub taken_inside : (tokens : List Token) (c : Checker) (tok : Tok) (new : State) (o : Option (Sexp Tok)) → Awaits tokens (token_of c.names tok ∷ []) c → tok.name < length c.names → o ≡ None → IsUnfinished new.0
     → (c.builder.1 ≡ None → ◌≡◌ {A = Result (Option (Sexp Tok)) SexpError} (Ok o) (Ok None) → new ≡ (c.builder.0 ++ flat_tok tok ∷ [], None))
     → (c.builder.1 ≡ None → (rule : Code) → TreeFault c.builder.0 (flat_tok tok) rule → ◌≡◌ {A = Result (Option (Sexp Tok)) SexpError} (Ok o) (Err (fault_at rule tok.at)))
-    → Follows (tokens ++ token_of c.names tok ∷ []) (record c { builder = new })
-taken_inside tokens c tok new o f named e unfinished inside faulty =
-    follows_inside tokens c tok new f named (inside f.no_error (ap Ok e)) unfinished (λ rule h. let bad = faulty f.no_error rule h in cc)
+    → HasTokensOf (tokens ++ token_of c.names tok ∷ []) (record c { builder = new })
+taken_inside tokens c tok new o w named e unfinished inside faulty =
+    follows_inside tokens c tok new w named (inside w.follows.no_error (ap Ok e)) unfinished (λ rule h. let bad = faulty w.follows.no_error rule h in cc)
 
-pub taken_list : (c n : Checker) (tok : Tok) (o : Option (Sexp Tok)) (t : Sexp Tok) (builder : State) (r : Result (Unit {0}) Stop) → o ≡ Some t → (c.builder.1 ≡ None → IfSome o (IsTaken c tok))
-    → (c.builder.1 ≡ None → IfSome o (λ x. builder ≡ ([], None))) → n.builder ≡ builder
-    → OnOk r (ListSteps (environment_of c.names c.scope) (sexp_of c.names t) (environment_of n.names n.scope)) → AllNamed n.names n.scope.declared.items → OnOk r (n.count ≡ c.count + 1)
-    → OnOk r ((tokens : List Token) → Follows tokens c → Follows (tokens ++ token_of c.names tok ∷ []) n)
-taken_list c n tok o t builder (Err stop) e tree emptied same steps named counted = tt
-taken_list c n tok o t builder (Ok u) e tree emptied same steps named counted = λ tokens f.
-    let taken = some_of (IsTaken c tok) o t e (tree f.no_error) in
-    follows_list tokens c n tok t f taken.0 taken.1 (same ∙ some_of (λ (x : Sexp Tok). builder ≡ ([], None)) o t e (emptied f.no_error)) steps named counted
+pub taken_list : (c n : Checker) (tok : Tok) (o : Option (Sexp Tok)) (t : Sexp Tok) (builder : State) (r : Result Progress Stop) → IsNameTable c.names → tok.name < length c.names
+    → o ≡ Some t → (c.builder.1 ≡ None → IfSome o (IsTaken c tok))
+    → (c.builder.1 ≡ None → IfSome o (λ x. builder ≡ ([], None))) → n.builder ≡ builder → n.names ≡ c.names
+    → IfOk r (λ p. TakesTree (environment_of c.names c.scope) t p (environment_of c.names n.scope)) → OnOk r (n.count ≡ c.count + 1)
+    → IfMore r (TakesTokens c (token_of c.names tok ∷ []) (token_of c.names tok ∷ []) n)
+taken_list c n tok o t builder (Err stop) table named e tree emptied same names steps counted = tt
+taken_list c n tok o t builder (Ok progress.Ended) table named e tree emptied same names steps counted = tt
+taken_list c n tok o t builder (Ok progress.More) table named e tree emptied same names steps counted = λ tokens w.
+    let taken = some_of (IsTaken c tok) o t e (tree w.follows.no_error) in
+    follows_list tokens c n tok t w table named taken.0 taken.1 (same ∙ some_of (λ (x : Sexp Tok). builder ≡ ([], None)) o t e (emptied w.follows.no_error)) names steps counted
 
-pub refused_list : (c : Checker) (tok : Tok) (o : Option (Sexp Tok)) (t : Sexp Tok) (r : Result (Unit {0}) Stop) → o ≡ Some t → (c.builder.1 ≡ None → IfSome o (IsTaken c tok))
-    → IfErr r (λ e. IfRefused e (λ refusal. CommandFault (environment_of c.names c.scope) (sexp_of c.names t) (place_of refusal) × (refusal.command ≡ c.count + 1)))
-    → IfErr r (λ e. IfRefused e (λ refusal. (tokens : List Token) → Follows tokens c → TokenBreaks tokens (token_of c.names tok) refusal))
-refused_list c tok o t (Ok u) e tree h = tt
-refused_list c tok o t (Err NoMemory) e tree h = tt
-refused_list c tok o t (Err (Refused refusal)) e tree h = λ tokens f.
-    let taken = some_of (IsTaken c tok) o t e (tree f.no_error) in breaks_command tokens c tok t refusal f taken.0 taken.1 h.0 h.1
+pub ended_list : (c n : Checker) (tok : Tok) (o : Option (Sexp Tok)) (t : Sexp Tok) (r : Result Progress Stop) → IsNameTable c.names → tok.name < length c.names
+    → o ≡ Some t → (c.builder.1 ≡ None → IfSome o (IsTaken c tok))
+    → IfOk r (λ p. TakesTree (environment_of c.names c.scope) t p (environment_of c.names n.scope)) → OnOk r (n.count ≡ c.count + 1)
+    → IfEnded r (ExitsWithin c (token_of c.names tok ∷ []) (token_of c.names tok ∷ []) n.count)
+ended_list c n tok o t (Err stop) table named e tree steps counted = tt
+ended_list c n tok o t (Ok progress.More) table named e tree steps counted = tt
+ended_list c n tok o t (Ok progress.Ended) table named e tree steps counted = λ tokens w.
+    let taken = some_of (IsTaken c tok) o t e (tree w.follows.no_error) in exits_list tokens c n tok t w table named taken.0 taken.1 steps counted
+
+pub refused_list : (c : Checker) (tok : Tok) (o : Option (Sexp Tok)) (t : Sexp Tok) (r : Result Progress Stop) → IsNameTable c.names → tok.name < length c.names
+    → o ≡ Some t → (c.builder.1 ≡ None → IfSome o (IsTaken c tok))
+    → IfErr r (λ e. IfRefused e (BreaksTree c t)) → IfErr r (λ e. IfRefused e (BreaksWith c (token_of c.names tok)))
+refused_list c tok o t (Ok u) table named e tree h = tt
+refused_list c tok o t (Err NoMemory) table named e tree h = tt
+refused_list c tok o t (Err (Refused refusal)) table named e tree h = λ tokens w.
+    let taken = some_of (IsTaken c tok) o t e (tree w.follows.no_error) in breaks_command tokens c tok t refusal w table named taken.0 taken.1 h.0 h.1
 
 pub broken_token : (c : Checker) (tok : Tok) (e : SexpError) (place : Place) (stop : Stop) → e ≡ error.Fault place → (c.builder.1 ≡ None → IsTreeError c.builder.0 (flat_tok tok) tok.at e)
     → stop ≡ Refused (record { command = c.count + 1; at = place.at; rule = place.code })
-    → IfRefused stop (λ refusal. (tokens : List Token) → Follows tokens c → TokenBreaks tokens (token_of c.names tok) refusal)
-broken_token c tok e place stop is fault says = rw says (λ tokens f.
-    let broken = subst (λ (x : SexpError). IsTreeError c.builder.0 (flat_tok tok) tok.at x) is (fault f.no_error) in breaks_lists tokens c tok place.code place.at f broken.0 broken.1)
+    → IfRefused stop (BreaksWith c (token_of c.names tok))
+broken_token c tok e place stop is fault says = rw says (λ tokens w.
+    let broken = subst (λ (x : SexpError). IsTreeError c.builder.0 (flat_tok tok) tok.at x) is (fault w.follows.no_error) in breaks_lists tokens c tok place.code place.at w broken.0 broken.1)
 
 -- one token that breaks a rule, among itself alone
-pub one_among : (c : Checker) (next : Token) (r : Result (Unit {0}) Stop) → IfErr r (λ e. IfRefused e (λ refusal. (tokens : List Token) → Follows tokens c → TokenBreaks tokens next refusal))
-    → IfErr r (λ e. IfRefused e (λ refusal. (tokens : List Token) → Follows tokens c → BreaksAmong tokens (next ∷ []) refusal))
+pub one_among : (c : Checker) (next : Token) (r : Result Progress Stop) → IfErr r (λ e. IfRefused e (BreaksWith c next))
+    → IfErr r (λ e. IfRefused e (BreaksWithin c (next ∷ []) (next ∷ [])))
 one_among c next (Ok u) h = tt
 one_among c next (Err NoMemory) h = tt
-one_among c next (Err (Refused refusal)) h = λ tokens f.
-    record { front = []; next = next; back = []; spelled = refl; breaks = subst (λ (ts : List Token). TokenBreaks ts next refusal) (sym (append-nil tokens)) (h tokens f) }
-
--- among the first tokens, and so among more
-among_first : (tokens new more : List Token) (refusal : Refusal) → BreaksAmong tokens new refusal → BreaksAmong tokens (new ++ more) refusal
-among_first tokens new more refusal b =
-    record { front = b.front; next = b.next; back = b.back ++ more; spelled = ap (λ (ts : List Token). ts ++ more) b.spelled ∙ append_assoc b.front (b.next ∷ b.back) more; breaks = b.breaks }
+one_among c next (Err (Refused refusal)) h = λ tokens w.
+    record { front = []; next = next; back = []; spelled = refl; breaks = subst (λ (ts : List Token). TokenBreaks ts next refusal) (sym (append-nil tokens)) (h tokens w) }
 
 -- among the later tokens, after the first ones
 among_second : (tokens first second : List Token) (refusal : Refusal) → BreaksAmong (tokens ++ first) second refusal → BreaksAmong tokens (first ++ second) refusal
@@ -86,25 +94,94 @@ among_second tokens first second refusal b = record {
   breaks = subst (λ (ts : List Token). TokenBreaks ts b.next refusal) (append_assoc tokens first b.front) b.breaks;
 }
 
+-- a token whose name is in the table adds nothing
+known_kind : (texts : List (List ℕ)) (k : TokKind) (at : ℕ) (t : Token) → list_any (bytes_eq t.name) texts ≡ true → texts ≡ table_after texts (flat_of k at t ∷ [])
+known_kind texts kind.Open at t h = refl
+known_kind texts kind.Close at t h = refl
+known_kind texts kind.Numeral at t h = rw h refl
+known_kind texts kind.Decimal at t h = rw h refl
+known_kind texts kind.Hexadecimal at t h = rw h refl
+known_kind texts kind.Binary at t h = rw h refl
+known_kind texts kind.Str at t h = rw h refl
+known_kind texts kind.Symbol at t h = rw h refl
+known_kind texts kind.Reserved at t h = rw h refl
+known_kind texts kind.Keyword at t h = rw h refl
+
+known_option : (texts : List (List ℕ)) (o : Option Tok) → IsInterned texts o → texts ≡ table_after texts (flat_tokens (option_tokens texts o))
+known_option texts None h = refl
+known_option texts (Some tok) h = known_kind texts tok.kind tok.at (token_of texts tok) (name_in_table texts tok h)
+
+-- the second token of a byte is awaited where the first was taken
+awaits_second : (tokens : List Token) (m : Checker) (o : Option Tok) → HasTokensOf tokens m → IsInterned m.names o → Awaits tokens (option_tokens m.names o) m
+awaits_second tokens m o f h = record { known = m.names; follows = f; names = known_option m.names o h }
+
+pub awaits_second_of : (c m : Checker) (a : Tok) (o : Option Tok) (tokens : List Token) → TakesTokens c (token_of c.names a ∷ []) (token_of c.names a ∷ []) m → m.names ≡ c.names → IsInterned c.names o
+    → Awaits tokens (token_of c.names a ∷ []) c → Awaits (tokens ++ token_of c.names a ∷ []) (option_tokens m.names o) m
+awaits_second_of c m a o tokens first same h w = awaits_second (tokens ++ token_of c.names a ∷ []) m o (first tokens w) (subst (λ (ns : List (List ℕ)). IsInterned ns o) (sym same) h)
+
+second_after : (c m : Checker) (a : Tok) (o : Option Tok) (tokens : List Token) → TakesTokens c (token_of c.names a ∷ []) (token_of c.names a ∷ []) m → m.names ≡ c.names → IsInterned c.names o
+    → Awaits tokens (token_of c.names a ∷ []) c → Awaits (tokens ++ token_of c.names a ∷ []) (option_tokens c.names o) m
+second_after c m a o tokens first same h w =
+    subst (λ (ns : List (List ℕ)). Awaits (tokens ++ token_of c.names a ∷ []) (option_tokens ns o) m) same (awaits_second_of c m a o tokens first same h w)
+
 -- the two tokens of a byte
-pub fed_follows : (c m n : Checker) (fed : Fed) (r : Result (Unit {0}) Stop) → ((tokens : List Token) → Follows tokens c → Follows (tokens ++ option_tokens c.names fed.first) m) → m.names ≡ c.names
-    → OnOk r ((tokens : List Token) → Follows tokens m → Follows (tokens ++ option_tokens m.names fed.second) n) → OnOk r ((tokens : List Token) → Follows tokens c → Follows (tokens ++ fed_tokens c.names fed) n)
-fed_follows c m n fed (Err stop) first same second = tt
-fed_follows c m n fed (Ok u) first same second = λ tokens f.
-    let after = second (tokens ++ option_tokens c.names fed.first) (first tokens f) in
-    subst (λ (ts : List Token). Follows ts n) (append_assoc tokens (option_tokens c.names fed.first) (option_tokens c.names fed.second))
-    (subst (λ (names : List (List ℕ)). Follows ((tokens ++ option_tokens c.names fed.first) ++ option_tokens names fed.second) n) same after)
+pub fed_more : (c m n : Checker) (a : Tok) (o : Option Tok) (r : Result Progress Stop) → TakesTokens c (token_of c.names a ∷ []) (token_of c.names a ∷ []) m → m.names ≡ c.names → IsInterned c.names o
+    → IfMore r (TakesTokens m (option_tokens m.names o) (option_tokens m.names o) n) → IfMore r (TakesTokens c (token_of c.names a ∷ []) (token_of c.names a ∷ option_tokens c.names o) n)
+fed_more c m n a o (Err stop) first same h second = tt
+fed_more c m n a o (Ok progress.Ended) first same h second = tt
+fed_more c m n a o (Ok progress.More) first same h second = λ tokens w.
+    subst (λ (ts : List Token). HasTokensOf ts n) (append_assoc tokens (token_of c.names a ∷ []) (option_tokens c.names o))
+    (subst (λ (ns : List (List ℕ)). TakesTokens m (option_tokens ns o) (option_tokens ns o) n) same second (tokens ++ token_of c.names a ∷ []) (second_after c m a o tokens first same h w))
 
-pub first_breaks : (c : Checker) (fed : Fed) (e : Stop) → IfRefused e (λ refusal. (tokens : List Token) → Follows tokens c → BreaksAmong tokens (option_tokens c.names fed.first) refusal)
-    → IfRefused e (λ refusal. (tokens : List Token) → Follows tokens c → BreaksAmong tokens (fed_tokens c.names fed) refusal)
-first_breaks c fed NoMemory h = tt
-first_breaks c fed (Refused refusal) h = λ tokens f. among_first tokens (option_tokens c.names fed.first) (option_tokens c.names fed.second) refusal (h tokens f)
+-- an `exit` among the first tokens is one among more
+pub exits_more : (tokens more : List Token) (count : ℕ) → Exits tokens count → Exits (tokens ++ more) count
+exits_more tokens more count x = record {
+  front = x.front;
+  back = x.back ++ more;
+  spelled = ap (λ (ts : List Token). ts ++ more) x.spelled ∙ append_assoc x.front x.back more;
+  lists = x.lists;
+  reads = x.reads;
+  run = x.run;
+  runs = x.runs;
+  ends = x.ends;
+  counted = x.counted;
+}
 
-pub second_breaks : (c m : Checker) (fed : Fed) (r : Result (Unit {0}) Stop) → ((tokens : List Token) → Follows tokens c → Follows (tokens ++ option_tokens c.names fed.first) m) → m.names ≡ c.names
-    → IfErr r (λ e. IfRefused e (λ refusal. (tokens : List Token) → Follows tokens m → BreaksAmong tokens (option_tokens m.names fed.second) refusal))
-    → IfErr r (λ e. IfRefused e (λ refusal. (tokens : List Token) → Follows tokens c → BreaksAmong tokens (fed_tokens c.names fed) refusal))
-second_breaks c m fed (Ok u) first same h = tt
-second_breaks c m fed (Err NoMemory) first same h = tt
-second_breaks c m fed (Err (Refused refusal)) first same h = λ tokens f.
-    among_second tokens (option_tokens c.names fed.first) (option_tokens c.names fed.second) refusal
-    (subst (λ (names : List (List ℕ)). BreaksAmong (tokens ++ option_tokens c.names fed.first) (option_tokens names fed.second) refusal) same (h (tokens ++ option_tokens c.names fed.first) (first tokens f)))
+pub fed_ends : (c m : Checker) (a : Tok) (o : Option Tok) (r : Result Progress Stop) (count : ℕ) → TakesTokens c (token_of c.names a ∷ []) (token_of c.names a ∷ []) m → m.names ≡ c.names → IsInterned c.names o
+    → IfEnded r (ExitsWithin m (option_tokens m.names o) (option_tokens m.names o) count) → IfEnded r (ExitsWithin c (token_of c.names a ∷ []) (token_of c.names a ∷ option_tokens c.names o) count)
+fed_ends c m a o (Err stop) count first same h second = tt
+fed_ends c m a o (Ok progress.More) count first same h second = tt
+fed_ends c m a o (Ok progress.Ended) count first same h second = λ tokens w.
+    subst (λ (ts : List Token). Exits ts count) (append_assoc tokens (token_of c.names a ∷ []) (option_tokens c.names o))
+    (subst (λ (ns : List (List ℕ)). ExitsWithin m (option_tokens ns o) (option_tokens ns o) count) same second (tokens ++ token_of c.names a ∷ []) (second_after c m a o tokens first same h w))
+
+pub first_ends : (c : Checker) (a : Tok) (o : Option Tok) (count : ℕ) → ExitsWithin c (token_of c.names a ∷ []) (token_of c.names a ∷ []) count
+    → ExitsWithin c (token_of c.names a ∷ []) (token_of c.names a ∷ option_tokens c.names o) count
+first_ends c a o count first tokens w =
+    subst (λ (ts : List Token). Exits ts count) (append_assoc tokens (token_of c.names a ∷ []) (option_tokens c.names o))
+    (exits_more (tokens ++ token_of c.names a ∷ []) (option_tokens c.names o) count (first tokens w))
+
+pub first_breaks : (c : Checker) (a : Tok) (o : Option Tok) (e : Stop) → IfRefused e (BreaksWith c (token_of c.names a))
+    → IfRefused e (BreaksWithin c (token_of c.names a ∷ []) (token_of c.names a ∷ option_tokens c.names o))
+first_breaks c a o NoMemory h = tt
+first_breaks c a o (Refused refusal) h = λ tokens w.
+    record { front = []; next = token_of c.names a; back = option_tokens c.names o; spelled = refl; breaks = subst (λ (ts : List Token). TokenBreaks ts (token_of c.names a) refusal) (sym (append-nil tokens)) (h tokens w) }
+
+pub second_breaks : (c m : Checker) (a : Tok) (o : Option Tok) (r : Result Progress Stop) → TakesTokens c (token_of c.names a ∷ []) (token_of c.names a ∷ []) m → m.names ≡ c.names → IsInterned c.names o
+    → IfErr r (λ e. IfRefused e (BreaksWithin m (option_tokens m.names o) (option_tokens m.names o)))
+    → IfErr r (λ e. IfRefused e (BreaksWithin c (token_of c.names a ∷ []) (token_of c.names a ∷ option_tokens c.names o)))
+second_breaks c m a o (Ok u) first same h second = tt
+second_breaks c m a o (Err NoMemory) first same h second = tt
+second_breaks c m a o (Err (Refused refusal)) first same h second = λ tokens w.
+    among_second tokens (token_of c.names a ∷ []) (option_tokens c.names o) refusal
+    (subst (λ (ns : List (List ℕ)). BreaksWithin m (option_tokens ns o) (option_tokens ns o) refusal) same second (tokens ++ token_of c.names a ∷ []) (second_after c m a o tokens first same h w))
+
+-- the tokens of a byte whose first is this one
+first_is : (names : List (List ℕ)) (fed : Fed) (a : Tok) → fed.first ≡ Some a → fed_tokens names fed ≡ token_of names a ∷ option_tokens names fed.second
+first_is names fed a e = ap (λ (o : Option Tok). option_tokens names o ++ option_tokens names fed.second) e
+
+pub by_first : (P : List Token → Type 0) (names : List (List ℕ)) (fed : Fed) (a : Tok) → fed.first ≡ Some a → P (token_of names a ∷ option_tokens names fed.second) → P (fed_tokens names fed)
+by_first P names fed a e h = subst P (sym (first_is names fed a e)) h
+
+pub of_first : (P : List Token → Type 0) (names : List (List ℕ)) (fed : Fed) (a : Tok) → fed.first ≡ Some a → P (fed_tokens names fed) → P (token_of names a ∷ option_tokens names fed.second)
+of_first P names fed a e h = subst P (first_is names fed a e) h

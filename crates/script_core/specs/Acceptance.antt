@@ -1,76 +1,70 @@
 -- Which texts are accepted, and which are refused, by which command and which rule.
-use Rattle.std.specs.Prelude.{◌≡◌, ◌⊎◌, ℕ, ◌+◌, Bool, true, false, List, ◌∷◌, ◌++◌, length, Option, Some, None}
+use Rattle.std.specs.Prelude.{◌≡◌, ◌⊎◌, ℕ, ◌+◌, Bool, true, false, List, length, Option, Some, None}
 use Rattle.lex_core.specs.Token.{Token}
 use Rattle.lex_core.specs.declared.place.Place.{Place}
-use Rattle.sig_table.specs.declared.code.Code.{Code}
-use Rattle.sig_table.specs.declared.code.Code.TheVariants.{UnsupportedForm, UnclosedList}
+use Rattle.sig_table.specs.declared.code.Code.TheVariants.{UnclosedList}
 use Rattle.sexp_core.specs.Reading.{IsUnclosed}
 use Rattle.sexp_core.specs.Sexp.{Sexp}
+use Rattle.cmd_grammar.specs.Commands.{Command}
 use Rattle.script_core.specs.declared.refusal.Refusal.{Refusal}
-use Rattle.script_core.specs.Command.{Command, IsCommand, first_byte}
-use Rattle.script_core.specs.Steps.{Environment, empty, IsAllowed, Breaks, StepThrough}
+use Rattle.script_core.specs.Environment.{start}
+use Rattle.script_core.specs.Steps.{Cause, all_taken, exited, broken, Run, Runs}
 use Rattle.script_core.specs.Text.{HasTokens, HasLists, ListsEnd, Unfinished, Broken}
 
--- the list is no command of the forms that is allowed here
-abbrev pub IsUnsupported : Environment → Sexp Token → Type 0
-IsUnsupported env t = (command : Command) → IsCommand t command → IsAllowed env command → ⊥
-
--- the list is a command that breaks the rule with this code
-abbrev pub IsBroken : Environment → Sexp Token → Code → Type 0
-IsBroken env t code = (command : Command) × IsCommand t command × Breaks env command code
-
--- the complete command breaks a rule; the place is its first byte
-abbrev pub CommandFault : Environment → Sexp Token → Place → Type 0
-CommandFault env t place = (place.at ≡ first_byte t) × (((place.code ≡ UnsupportedForm) × IsUnsupported env t) ⊎ IsBroken env t place.code)
-
--- The text after the complete commands shows a fault: a token that breaks a rule of lists comes first, then the fault of
+-- The text after the complete lists shows a fault: a token that breaks a rule of lists comes first, then the fault of
 -- the lexicon, and at the end a list that lacks its end.
 abbrev pub TextFault : Bool → Option Place → ListsEnd → Place → Type 0
-TextFault ended fault (Broken broken) place = place ≡ broken
-TextFault ended (Some fault) (Unfinished tokens) place = place ≡ fault
-TextFault true None (Unfinished tokens) place = IsUnclosed tokens place.at × (place.code ≡ UnclosedList)
-TextFault false None (Unfinished tokens) place = ⊥
+TextFault ended fault (Broken place) here = here ≡ place
+TextFault ended (Some fault) (Unfinished tokens) here = here ≡ fault
+TextFault true None (Unfinished tokens) here = IsUnclosed tokens here.at × (here.code ≡ UnclosedList)
+TextFault false None (Unfinished tokens) here = ⊥
 
--- The complete lists of the text are these commands, which step one after the other from the empty environment, and the
--- text after them shows no fault.
-pub record Sofar (bytes : List ℕ) (ended : Bool) (commands : List Command) : Type 0 where
+-- A text, whose end was seen or not, as its complete lists, taken as commands, and what comes after them.
+pub record Judged (bytes : List ℕ) (ended : Bool) (fault : Option Place) (rest : ListsEnd) (run : Run) : Type 0 where
   pub tokens : List Token
   pub lists : List (Sexp Token)
-  pub rest : ListsEnd
-  pub env : Environment
-  pub has_tokens : HasTokens bytes tokens ended None
+  pub has_tokens : HasTokens bytes tokens ended fault
   pub has_lists : HasLists tokens lists rest
-  pub steps : StepThrough empty lists commands env
-  pub no_fault : (place : Place) → TextFault ended None rest place → ⊥
+  pub runs : Runs start lists run
+
+-- An accepted `exit` ends the script, and what follows it is ignored. Else all commands are accepted, and the text after them
+-- shows no fault.
+abbrev pub IsFaultless : Bool → Option Place → ListsEnd → Cause → Type 0
+IsFaultless ended fault rest exited = Unit {0}
+IsFaultless ended fault rest all_taken = (place : Place) → TextFault ended fault rest place → ⊥
+IsFaultless ended fault rest (broken place) = ⊥
+
+-- the first fault is that of a command, or, where all commands are accepted, that of the text after them
+abbrev pub IsFirstFault : Bool → Option Place → ListsEnd → Cause → Place → Type 0
+IsFirstFault ended fault rest exited place = ⊥
+IsFirstFault ended fault rest all_taken place = TextFault ended fault rest place
+IsFirstFault ended fault rest (broken here) place = place ≡ here
+
+-- the text so far is that of these accepted commands, and shows no fault
+pub record Sofar (bytes : List ℕ) (ended : Bool) (commands : List Command) : Type 0 where
+  pub fault : Option Place
+  pub rest : ListsEnd
+  pub run : Run
+  pub judged : Judged bytes ended fault rest run
+  pub accepted : commands ≡ run.commands
+  pub faultless : IsFaultless ended fault rest run.cause
 
 -- the whole text is a script of these commands
 abbrev pub Accepts : List ℕ → List Command → Type 0
 Accepts bytes commands = Sofar bytes true commands
 
--- the first fault: of the first complete command that does not step, or, where all step, of the text
-abbrev pub FirstFault : Bool → Option Place → List (Sexp Token) → List (Sexp Token) → ListsEnd → Environment → Place → Type 0
-FirstFault ended fault lists before rest env place =
-    ((t : Sexp Token) × (after : List (Sexp Token)) × (lists ≡ before ++ t ∷ after) × CommandFault env t place)
-    ⊎ ((lists ≡ before) × TextFault ended fault rest place)
-
 -- where a refusal points
 abbrev pub place_of : Refusal → Place
 place_of refusal = record { code = refusal.rule; at = refusal.at }
 
--- The commands before the one that is named step, and it is the first that breaks a rule.
+-- The commands before the one that is named are accepted, none of them is `exit`, and that one is the first that breaks a rule.
 pub record Refuses (bytes : List ℕ) (ended : Bool) (refusal : Refusal) : Type 0 where
-  pub tokens : List Token
   pub fault : Option Place
-  pub lists : List (Sexp Token)
   pub rest : ListsEnd
-  pub before : List (Sexp Token)
-  pub commands : List Command
-  pub env : Environment
-  pub has_tokens : HasTokens bytes tokens ended fault
-  pub has_lists : HasLists tokens lists rest
-  pub steps : StepThrough empty before commands env
-  pub number : refusal.command ≡ length commands + 1
-  pub first_fault : FirstFault ended fault lists before rest env (place_of refusal)
+  pub run : Run
+  pub judged : Judged bytes ended fault rest run
+  pub number : refusal.command ≡ length run.commands + 1
+  pub first_fault : IsFirstFault ended fault rest run.cause (place_of refusal)
 
 -- the text is accepted so far, or it is refused
 abbrev pub SomeAnswer : List ℕ → Bool → Type 0

@@ -1,42 +1,78 @@
 -- Where a checker stands after the bytes that it took.
-use Rattle.std.specs.Prelude.{◌≡◌, ◌⊎◌, ℕ, ◌+◌, ◌*◌, ◌≤◌, Bool, true, List, [], ◌∷◌, ◌++◌, length, map, None}
+use Rattle.std.specs.Prelude.{◌≡◌, ◌⊎◌, ℕ, ◌+◌, ◌*◌, ◌≤◌, Bool, true, false, List, [], ◌∷◌, ◌++◌, length, map, None, Result, Ok, Err}
 use Rattle.lex_core.specs.LexerCalls.{HasRead}
+use Rattle.lex_core.specs.NameTable.{IsNameTable}
 use Rattle.lex_core.specs.Token.{Token, token_of}
 use Rattle.lex_core.specs.declared.token.Tok.{Tok}
 use Rattle.sexp_core.specs.Reading.{IsList, Reads, TreeFault}
 use Rattle.sexp_core.specs.Sexp.{FlatToken, Sexp, flat, map_flat}
 use Rattle.sexp_core.specs.Tokens.{flat_token, flat_tokens}
+use Rattle.cmd_grammar.specs.Commands.{Command}
+use Rattle.judgement.specs.Judging.{ill_sorted, well_sorted}
 use Rattle.script_core.specs.declared.checker.Checker.{Checker}
+use Rattle.script_core.specs.declared.refusal.Progress.{Progress}
+use Rattle.script_core.specs.declared.refusal.Progress.TheVariants as progress
 use Rattle.script_core.specs.declared.refusal.Refusal.{Refusal}
 use Rattle.script_core.specs.declared.refusal.Stop.{Stop}
 use Rattle.script_core.specs.declared.refusal.Stop.TheVariants.{Refused, NoMemory}
-use Rattle.script_core.specs.Command.{Command}
-use Rattle.script_core.specs.Steps.{Environment, empty, StepThrough}
-use Rattle.script_core.specs.Acceptance.{CommandFault, Refuses, Sofar, place_of}
-use Rattle.script_core.specs.Interned.{AllNamed, AreInterned, ListSteps, environment_of, sexp_of}
+use Rattle.script_core.specs.declared.scope.Scope.{Scope}
+use Rattle.script_core.specs.declared.scope.StepError.{StepError}
+use Rattle.script_core.specs.declared.scope.StepError.TheVariants as error
+use Rattle.script_core.specs.Acceptance.{Refuses, Sofar, place_of}
+use Rattle.script_core.specs.Environment.{Environment, start}
+use Rattle.script_core.specs.Interned.{AreInterned}
+use Rattle.script_core.specs.Numbering.{table_after}
+use Rattle.script_core.specs.Steps.{all_taken, exited, ListFault, Run, Runs, is_exit, judge_tree}
 
--- the checker has taken these tokens: their complete lists step, and it keeps the tokens of the unfinished one
-pub record Follows (tokens : List Token) (checker : Checker) : Type 0 where
+-- the tokens of an unfinished list with their names as texts
+abbrev pub texts_of : List (List ℕ) → List (FlatToken Tok) → List (FlatToken Token)
+texts_of texts tokens = map (map_flat (token_of texts)) tokens
+
+-- what a scope keeps of an environment
+abbrev pub environment_of : List (List ℕ) → Scope → Environment
+environment_of names scope = record { names = names; logic = scope.logic; declared = scope.declared.items }
+
+-- The checker has taken these tokens, whose names are in the table `known`: their complete lists are accepted, and it keeps the
+-- tokens of the unfinished one. Its own table may have the name of the next token besides.
+pub record Follows (known : List (List ℕ)) (tokens : List Token) (checker : Checker) : Type 0 where
   pub lists : List (Sexp Token)
   pub commands : List Command
-  pub reads : Reads (flat_tokens tokens) lists (map (map_flat (token_of checker.names)) checker.builder.0)
+  -- the names after the complete lists
+  pub names : List (List ℕ)
+  pub reads : Reads (flat_tokens tokens) lists (texts_of checker.names checker.builder.0)
   pub no_error : checker.builder.1 ≡ None
-  pub steps : StepThrough empty lists commands (environment_of checker.names checker.scope)
+  pub runs : Runs start lists (record { commands = commands; env = environment_of names checker.scope; cause = all_taken })
   pub counted : checker.count ≡ length commands
   pub interned : AreInterned checker.names checker.builder.0
-  pub declared : AllNamed checker.names checker.scope.declared.items
+  pub table : known ≡ table_after names (texts_of checker.names checker.builder.0)
 
--- after tokens whose lists step, the next one breaks a rule of lists, or completes a command that breaks a rule
+-- the checker has taken these tokens, and its table has their names alone
+abbrev pub HasTokensOf : List Token → Checker → Type 0
+HasTokensOf tokens checker = Follows checker.names tokens checker
+
+-- the complete lists of these tokens begin with lists that are commands, the last of them `exit`
+pub record Exits (tokens : List Token) (count : ℕ) : Type 0 where
+  pub front : List Token
+  pub back : List Token
+  pub spelled : tokens ≡ front ++ back
+  pub lists : List (Sexp Token)
+  pub reads : Reads (flat_tokens front) lists []
+  pub run : Run
+  pub runs : Runs start lists run
+  pub ends : run.cause ≡ exited
+  pub counted : count ≡ length run.commands
+
+-- after tokens whose lists are accepted, the next one breaks a rule of lists, or completes a command that breaks a rule
 pub record TokenBreaks (tokens : List Token) (next : Token) (refusal : Refusal) : Type 0 where
   pub lists : List (Sexp Token)
   pub commands : List Command
   pub env : Environment
   pub unfinished : List (FlatToken Token)
   pub reads : Reads (flat_tokens tokens) lists unfinished
-  pub steps : StepThrough empty lists commands env
+  pub runs : Runs start lists (record { commands = commands; env = env; cause = all_taken })
   pub number : refusal.command ≡ length commands + 1
   pub fault : (TreeFault unfinished (flat_token next) refusal.rule × (refusal.at ≡ next.at))
-      ⊎ ((t : Sexp Token) × IsList t × (flat t ≡ unfinished ++ flat_token next ∷ []) × CommandFault env t (place_of refusal))
+      ⊎ ((t : Sexp Token) × IsList t × (flat t ≡ unfinished ++ flat_token next ∷ []) × ListFault env t (place_of refusal))
 
 -- one of the new tokens is the first that breaks a rule
 pub record BreaksAmong (tokens new : List Token) (refusal : Refusal) : Type 0 where
@@ -55,7 +91,8 @@ IfRefused NoMemory P = Unit {0}
 pub record HasTaken (bytes : List ℕ) (checker : Checker) : Type 0 where
   pub tokens : List Token
   pub read : HasRead bytes tokens checker.lexer
-  pub follows : Follows tokens checker
+  pub follows : HasTokensOf tokens checker
+  pub table : IsNameTable checker.names
   pub few_names : length checker.names ≤ 57 + length bytes
   pub few_commands : checker.count ≤ 2 * length bytes
 
@@ -65,30 +102,59 @@ pub record SofarCount (bytes : List ℕ) (ended : Bool) (count : ℕ) : Type 0 w
   pub sofar : Sofar bytes ended commands
   pub counted : count ≡ length commands
 
+-- whatever comes after these bytes, the script ends in them, with this number of commands
+abbrev pub HasExited : List ℕ → ℕ → Type 0
+HasExited bytes count = (more : List ℕ) (ended : Bool) → SofarCount (bytes ++ more) ended count
+
+-- the checker has taken these tokens, and its table has the names of the next ones too
+pub record Awaits (tokens next : List Token) (checker : Checker) : Type 0 where
+  pub known : List (List ℕ)
+  pub follows : Follows known tokens checker
+  pub names : checker.names ≡ table_after known (flat_tokens next)
+
+-- the fact holds where the script goes on, or where an `exit` was accepted
+abbrev pub IfMore : Result Progress Stop → Type 0 → Type 0
+IfMore (Ok progress.More) P = P
+IfMore result P = Unit {0}
+
+abbrev pub IfEnded : Result Progress Stop → Type 0 → Type 0
+IfEnded (Ok progress.Ended) P = P
+IfEnded result P = Unit {0}
+
 -- with these tokens more, the checker stands here
-abbrev pub TakesTokens : Checker → List Token → Checker → Type 0
-TakesTokens old new checker = (tokens : List Token) → Follows tokens old → Follows (tokens ++ new) checker
+abbrev pub TakesTokens : Checker → List Token → List Token → Checker → Type 0
+TakesTokens old next new checker = (tokens : List Token) → Awaits tokens next old → HasTokensOf (tokens ++ new) checker
+
+-- among these tokens more is the end of an accepted `exit`
+abbrev pub ExitsWithin : Checker → List Token → List Token → ℕ → Type 0
+ExitsWithin old next new count = (tokens : List Token) → Awaits tokens next old → Exits (tokens ++ new) count
 
 -- with this token, or with one of these, the tokens break a rule
 abbrev pub BreaksWith : Checker → Token → Refusal → Type 0
-BreaksWith old next refusal = (tokens : List Token) → Follows tokens old → TokenBreaks tokens next refusal
+BreaksWith old next refusal = (tokens : List Token) → Awaits tokens (next ∷ []) old → TokenBreaks tokens next refusal
 
-abbrev pub BreaksWithin : Checker → List Token → Refusal → Type 0
-BreaksWithin old new refusal = (tokens : List Token) → Follows tokens old → BreaksAmong tokens new refusal
+abbrev pub BreaksWithin : Checker → List Token → List Token → Refusal → Type 0
+BreaksWithin old next new refusal = (tokens : List Token) → Awaits tokens next old → BreaksAmong tokens new refusal
 
 -- with this byte more, the checker stands here
 abbrev pub TakesByte : Checker → ℕ → Checker → Type 0
 TakesByte old byte checker = (bytes : List ℕ) → HasTaken bytes old → HasTaken (bytes ++ byte ∷ []) checker
 
+-- with this byte an `exit` is accepted
+abbrev pub ExitsByte : Checker → ℕ → ℕ → Type 0
+ExitsByte old byte count = (bytes : List ℕ) → HasTaken bytes old → HasExited (bytes ++ byte ∷ []) count
+
 -- with this byte the bytes are refused, whatever comes after it
 abbrev pub RefusesByte : Checker → ℕ → Refusal → Type 0
 RefusesByte old byte refusal = (bytes more : List ℕ) (ended : Bool) → HasTaken bytes old → Refuses ((bytes ++ byte ∷ []) ++ more) ended refusal
 
--- with these bytes more, the checker stands here
+-- the same of a chunk of bytes
 abbrev pub TakesBytes : Checker → List ℕ → Checker → Type 0
 TakesBytes old piece checker = (bytes : List ℕ) → HasTaken bytes old → HasTaken (bytes ++ piece) checker
 
--- with these bytes the text is refused, whatever comes after them
+abbrev pub ExitsBytes : Checker → List ℕ → ℕ → Type 0
+ExitsBytes old piece count = (bytes : List ℕ) → HasTaken bytes old → HasExited (bytes ++ piece) count
+
 abbrev pub RefusesBytes : Checker → List ℕ → Refusal → Type 0
 RefusesBytes old piece refusal = (bytes more : List ℕ) (ended : Bool) → HasTaken bytes old → Refuses ((bytes ++ piece) ++ more) ended refusal
 
@@ -100,10 +166,17 @@ AcceptsText old count = (bytes : List ℕ) → HasTaken bytes old → SofarCount
 abbrev pub RefusesText : Checker → Refusal → Type 0
 RefusesText old refusal = (bytes : List ℕ) → HasTaken bytes old → Refuses bytes true refusal
 
--- the list breaks a rule, as the next command
-abbrev pub BreaksList : Checker → Sexp Tok → Refusal → Type 0
-BreaksList old t refusal = CommandFault (environment_of old.names old.scope) (sexp_of old.names t) (place_of refusal) × (refusal.command ≡ old.count + 1)
+-- the tree is a command, which leads from old to new
+abbrev pub TakesTree : Environment → Sexp Tok → Progress → Environment → Type 0
+TakesTree old t progress.More new = (command : Command) × (declared : List ℕ) × judge_tree old t [] (well_sorted (command, new) declared) × (is_exit command ≡ false)
+TakesTree old t progress.Ended new = (command : Command) × (declared : List ℕ) × judge_tree old t [] (well_sorted (command, new) declared) × (is_exit command ≡ true)
 
--- the list steps
-abbrev pub TakesList : Checker → Sexp Tok → Checker → Type 0
-TakesList old t checker = ListSteps (environment_of old.names old.scope) (sexp_of old.names t) (environment_of checker.names checker.scope)
+-- what the judging of a tree answers
+abbrev pub AnswersTree : Environment → Sexp Tok → Result Progress StepError → Environment → Type 0
+AnswersTree old t (Ok progress) new = TakesTree old t progress new
+AnswersTree old t (Err (error.Broken place)) new = judge_tree old t [] (ill_sorted place)
+AnswersTree old t (Err error.NoMemory) new = Unit {0}
+
+-- the tree breaks a rule, as the next command
+abbrev pub BreaksTree : Checker → Sexp Tok → Refusal → Type 0
+BreaksTree old t refusal = judge_tree (environment_of old.names old.scope) t [] (ill_sorted (place_of refusal)) × (refusal.command ≡ old.count + 1)

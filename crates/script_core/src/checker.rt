@@ -1,22 +1,24 @@
-ghost use Rattle.std.specs.Prelude.{◌≡◌, ◌+◌, ◌-◌, ◌<◌, ◌≤◌, ◌^◌, ◌∷◌, [], ℕ, List, length, IfErr, IfOk, OnOk};
+//! A checker of a text that comes byte by byte.
+ghost use Rattle.std.specs.Prelude.{◌≡◌, ◌+◌, ◌-◌, ◌<◌, ◌≤◌, ◌^◌, ◌∷◌, [], ℕ, List, length, take, IfErr, IfOk, OnOk};
+ghost use Rattle.lex_core.specs.NameTable.{IsNameTable};
 ghost use Rattle.lex_core.specs.Token.{IsInterned, Token, fed_tokens, option_tokens, token_of};
 ghost use Rattle.sexp_core.specs.Sexp.{flat};
-ghost use Rattle.script_core.specs.Command.{first_byte};
-ghost use Rattle.script_core.specs.Interned.{AllNamed, AreInterned, sexp_of};
-ghost use Rattle.script_core.specs.Checking.{AcceptsText, BreaksList, BreaksWith, BreaksWithin, Follows, HasTaken, IfRefused};
-ghost use Rattle.script_core.specs.Checking.{RefusesByte, RefusesBytes, RefusesText, TakesByte, TakesBytes, TakesList, TakesTokens};
+ghost use Rattle.script_core.specs.Interned.{AreInterned};
+ghost use Rattle.script_core.specs.Checking.{Awaits, BreaksTree, BreaksWith, BreaksWithin, HasTaken, IfEnded, IfMore, IfRefused, environment_of};
+ghost use Rattle.script_core.specs.Checking.{AcceptsText, ExitsByte, ExitsBytes, ExitsWithin, RefusesByte, RefusesBytes, RefusesText, TakesByte, TakesBytes, TakesTokens, TakesTree};
 
-use super::refusal::{Refusal, Stop};
-use super::scope::{Scope, StepError, take_list};
+use crate::refusal::{Progress, Refusal, Stop};
+use crate::scope::{Scope, StepError, take_tree};
 use io_core::NoMemory;
 use lex_core::{Fed, LexError, Lexer, Names, Place, Tok};
-use sexp_core::{Builder, Part, SexpError, Tree, Trees};
+use sexp_core::{Builder, SexpError, Tree};
 use std::alloc::Global;
 
 /// Checks a text that comes byte by byte: the lexer makes tokens of the bytes, the builder lists of the tokens, and each
 /// complete list is taken as a command.
 #[derive(Drop)]
 pub struct Checker {
+    pub alloc: Global,
     pub names: Names,
     pub lexer: Lexer,
     pub builder: Builder,
@@ -25,15 +27,11 @@ pub struct Checker {
     pub count: u32,
 }
 
-// The first byte of a tree.
-fn first_byte(tree: &Tree) -> u32
-    ensures { (texts : List (List ℕ)) → result ≡ first_byte (sexp_of texts tree.now) }
+// What every table of names is.
+fn known_table(names: &Names)
+    ensures { IsNameTable names.now }
 {
-    match Trees::of(tree).split() {
-        Some((Part::List { at, .. }, _)) => at,
-        Some((Part::Atom(tok), _)) => tok.at,
-        None => 0,
-    }
+    names.count();
 }
 
 impl Checker {
@@ -42,7 +40,9 @@ impl Checker {
         ensures { IfOk result (λ checker. HasTaken [] checker) }
     {
         let names = Names::new(alloc)?;
+        known_table(&names);
         Ok(Checker {
+            alloc,
             names,
             lexer: Lexer::new(alloc),
             builder: Builder::new(alloc),
@@ -67,116 +67,135 @@ impl Checker {
     }
 
     // Takes a complete list.
-    fn take_tree(&mut self, tree: &Tree) -> Result<(), Stop>
-        requires interned { AreInterned self.old.names (flat tree.now) }
-        requires declared { AllNamed self.old.names self.old.scope.declared.items }
+    fn take_list(&mut self, tree: &Tree) -> Result<Progress, Stop>
         requires few { self.old.count < 2 ^ 32 - 1 }
-        ensures ok { OnOk result (TakesList self.old tree.now self.new) }
-        ensures refused { IfErr result (λ e. IfRefused e (BreaksList self.old tree.now)) }
-        ensures declared { AllNamed self.new.names self.new.scope.declared.items }
+        ensures ok { IfOk result (λ progress. let env = environment_of self.old.names in
+            TakesTree (env self.old.scope) tree.now progress (env self.new.scope)) }
+        ensures refused { IfErr result (λ e. IfRefused e (BreaksTree self.old tree.now)) }
         ensures counted { OnOk result (self.new.count ≡ self.old.count + 1) }
         ensures uncounted { IfErr result (λ e. self.new.count ≡ self.old.count) }
         ensures same { (self.new.names ≡ self.old.names) × (self.new.lexer ≡ self.old.lexer) × (self.new.builder ≡ self.old.builder) }
     {
-        match take_list(&self.names, &mut self.scope, tree) {
-            Ok(()) => {
+        match take_tree(self.alloc, &self.names, &mut self.scope, tree) {
+            Ok(progress) => {
                 self.count += 1;
-                Ok(())
+                Ok(progress)
             }
             Err(StepError::NoMemory) => Err(Stop::NoMemory),
-            Err(StepError::Broken(code)) => Err(self.refusal(Place {
-                code,
-                at: first_byte(tree),
-            })),
+            Err(StepError::Broken(place)) => Err(self.refusal(place)),
         }
     }
 
     // Takes the next token.
-    fn take_token(&mut self, tok: Tok) -> Result<(), Stop>
-        requires follows { (tokens : List Token) × Follows tokens self.old }
+    fn take_token(&mut self, tok: Tok) -> Result<Progress, Stop>
+        requires awaits { (tokens : List Token) × Awaits tokens (token_of self.old.names tok ∷ []) self.old }
+        requires table { IsNameTable self.old.names }
         requires interned { tok.name < length self.old.names }
         requires short { length self.old.builder.0 < 2 ^ 31 }
         requires few { self.old.count < 2 ^ 32 - 1 }
-        ensures ok { OnOk result (TakesTokens self.old (token_of self.old.names tok ∷ []) self.new) }
+        ensures more { let next = token_of self.old.names tok in
+            IfMore result (TakesTokens self.old (next ∷ []) (next ∷ []) self.new) }
+        ensures ended { let next = token_of self.old.names tok in
+            IfEnded result (ExitsWithin self.old (next ∷ []) (next ∷ []) self.new.count) }
         ensures refused { IfErr result (λ e. IfRefused e (BreaksWith self.old (token_of self.old.names tok))) }
         ensures number { IfErr result (λ e. IfRefused e (λ refusal. refusal.command ≡ self.new.count + 1)) }
         ensures counted { self.new.count ≤ self.old.count + 1 }
-        ensures longer { OnOk result (length self.new.builder.0 ≤ length self.old.builder.0 + 1) }
+        ensures longer { IfMore result (length self.new.builder.0 ≤ length self.old.builder.0 + 1) }
         ensures same { (self.new.names ≡ self.old.names) × (self.new.lexer ≡ self.old.lexer) }
     {
         match self.builder.take(tok) {
-            Ok(None) => Ok(()),
-            Ok(Some(tree)) => self.take_tree(&tree),
+            Ok(None) => Ok(Progress::More),
+            Ok(Some(tree)) => self.take_list(&tree),
             Err(SexpError::NoMemory) => Err(Stop::NoMemory),
             Err(SexpError::Fault(place)) => Err(self.refusal(place)),
         }
     }
 
     // Takes the next token, where there is one.
-    fn take_option(&mut self, tok: Option<Tok>) -> Result<(), Stop>
-        requires follows { (tokens : List Token) × Follows tokens self.old }
+    fn take_option(&mut self, tok: Option<Tok>) -> Result<Progress, Stop>
+        requires awaits { (tokens : List Token) × Awaits tokens (option_tokens self.old.names tok) self.old }
+        requires table { IsNameTable self.old.names }
         requires interned { IsInterned self.old.names tok }
         requires short { length self.old.builder.0 < 2 ^ 31 }
         requires few { self.old.count < 2 ^ 32 - 1 }
-        ensures ok { OnOk result (TakesTokens self.old (option_tokens self.old.names tok) self.new) }
-        ensures refused { IfErr result (λ e. IfRefused e (BreaksWithin self.old (option_tokens self.old.names tok))) }
+        ensures more { let next = option_tokens self.old.names tok in IfMore result (TakesTokens self.old next next self.new) }
+        ensures ended { let next = option_tokens self.old.names tok in IfEnded result (ExitsWithin self.old next next self.new.count) }
+        ensures refused { let next = option_tokens self.old.names tok in IfErr result (λ e. IfRefused e (BreaksWithin self.old next next)) }
         ensures number { IfErr result (λ e. IfRefused e (λ refusal. refusal.command ≡ self.new.count + 1)) }
         ensures counted { self.new.count ≤ self.old.count + 1 }
-        ensures longer { OnOk result (length self.new.builder.0 ≤ length self.old.builder.0 + 1) }
+        ensures longer { IfMore result (length self.new.builder.0 ≤ length self.old.builder.0 + 1) }
         ensures same { (self.new.names ≡ self.old.names) × (self.new.lexer ≡ self.old.lexer) }
     {
         match tok {
-            None => Ok(()),
+            None => Ok(Progress::More),
             Some(tok) => self.take_token(tok),
         }
     }
 
-    // Takes the tokens that a byte completes.
-    fn take_fed(&mut self, fed: Fed) -> Result<(), Stop>
-        requires follows { (tokens : List Token) × Follows tokens self.old }
+    // Takes the tokens that a byte completes. The table has gained the name of the first of them alone.
+    fn take_fed(&mut self, fed: Fed) -> Result<Progress, Stop>
+        requires awaits { (tokens : List Token) × Awaits tokens (take 1 (fed_tokens self.old.names fed)) self.old }
+        requires table { IsNameTable self.old.names }
         requires interned { IsInterned self.old.names fed.first × IsInterned self.old.names fed.second }
         requires short { length self.old.builder.0 + 1 < 2 ^ 31 }
         requires few { self.old.count + 1 < 2 ^ 32 - 1 }
-        ensures ok { OnOk result (TakesTokens self.old (fed_tokens self.old.names fed) self.new) }
-        ensures refused { IfErr result (λ e. IfRefused e (BreaksWithin self.old (fed_tokens self.old.names fed))) }
+        ensures more { let all = fed_tokens self.old.names fed in IfMore result (TakesTokens self.old (take 1 all) all self.new) }
+        ensures ended { let all = fed_tokens self.old.names fed in IfEnded result (ExitsWithin self.old (take 1 all) all self.new.count) }
+        ensures refused { let all = fed_tokens self.old.names fed in
+            IfErr result (λ e. IfRefused e (BreaksWithin self.old (take 1 all) all)) }
         ensures number { IfErr result (λ e. IfRefused e (λ refusal. refusal.command ≡ self.new.count + 1)) }
         ensures counted { self.new.count ≤ self.old.count + 2 }
         ensures same { (self.new.names ≡ self.old.names) × (self.new.lexer ≡ self.old.lexer) }
     {
-        match self.take_option(fed.first) {
-            Ok(()) => self.take_option(fed.second),
-            Err(stop) => Err(stop),
-        }
-    }
-
-    /// Takes the next byte. `Refused` comes exactly where the bytes so far, without their end, are refused.
-    pub fn take_byte(&mut self, byte: u8) -> Result<(), Stop>
-        requires taken { (bytes : List ℕ) × HasTaken bytes self.old × (length bytes < 2 ^ 30) }
-        ensures ok { OnOk result (TakesByte self.old byte self.new) }
-        ensures refused { IfErr result (λ e. IfRefused e (RefusesByte self.old byte)) }
-        ensures number { IfErr result (λ e. IfRefused e (λ refusal. refusal.command ≡ self.new.count + 1)) }
-    {
-        match self.lexer.feed(&mut self.names, byte) {
-            Ok(fed) => self.take_fed(fed),
-            Err(LexError::NoMemory) => Err(Stop::NoMemory),
-            Err(LexError::Fault(fault)) => match self.take_option(fault.before) {
-                Ok(()) => Err(self.refusal(fault.place)),
+        let Fed { first, second } = fed;
+        match first {
+            None => self.take_option(second),
+            Some(first) => match self.take_token(first) {
+                Ok(Progress::More) => self.take_option(second),
+                Ok(Progress::Ended) => Ok(Progress::Ended),
                 Err(stop) => Err(stop),
             },
         }
     }
 
-    /// Takes bytes one after the other, up to the first that is refused.
-    pub fn take_bytes(&mut self, piece: &[u8]) -> Result<(), Stop>
+    /// Takes the next byte. `Refused` comes exactly where the bytes so far, without their end, are refused, and `Ended` exactly
+    /// where an `exit` ends with this byte.
+    pub fn take_byte(&mut self, byte: u8) -> Result<Progress, Stop>
+        requires taken { (bytes : List ℕ) × HasTaken bytes self.old × (length bytes < 2 ^ 30) }
+        ensures more { IfMore result (TakesByte self.old byte self.new) }
+        ensures ended { IfEnded result (ExitsByte self.old byte self.new.count) }
+        ensures refused { IfErr result (λ e. IfRefused e (RefusesByte self.old byte)) }
+        ensures number { IfErr result (λ e. IfRefused e (λ refusal. refusal.command ≡ self.new.count + 1)) }
+    {
+        let fed = self.lexer.feed(&mut self.names, byte);
+        known_table(&self.names);
+        match fed {
+            Ok(fed) => self.take_fed(fed),
+            Err(LexError::NoMemory) => Err(Stop::NoMemory),
+            Err(LexError::Fault(fault)) => match self.take_option(fault.before) {
+                Ok(Progress::More) => Err(self.refusal(fault.place)),
+                Ok(Progress::Ended) => Ok(Progress::Ended),
+                Err(stop) => Err(stop),
+            },
+        }
+    }
+
+    /// Takes bytes one after the other, up to the first that is refused or ends the script. The bytes after it are dropped.
+    pub fn take_bytes(&mut self, piece: &[u8]) -> Result<Progress, Stop>
         requires taken { (bytes : List ℕ) × HasTaken bytes self.old × (length bytes + length piece.now ≤ 2 ^ 30) }
-        ensures ok { OnOk result (TakesBytes self.old piece.now self.new) }
+        ensures more { IfMore result (TakesBytes self.old piece.now self.new) }
+        ensures ended { IfEnded result (ExitsBytes self.old piece.now self.new.count) }
         ensures refused { IfErr result (λ e. IfRefused e (RefusesBytes self.old piece.now)) }
         ensures number { IfErr result (λ e. IfRefused e (λ refusal. refusal.command ≡ self.new.count + 1)) }
     {
         for byte in piece {
-            self.take_byte(*byte)?;
+            match self.take_byte(*byte) {
+                Ok(Progress::More) => {}
+                Ok(Progress::Ended) => return Ok(Progress::Ended),
+                Err(stop) => return Err(stop),
+            }
         }
-        Ok(())
+        Ok(Progress::More)
     }
 
     /// Takes the end. `Refused` comes exactly where the whole text is refused.
@@ -186,12 +205,15 @@ impl Checker {
         ensures refused { IfErr result (λ e. IfRefused e (RefusesText self.old)) }
         ensures number { IfErr result (λ e. IfRefused e (λ refusal. refusal.command ≡ self.new.count + 1)) }
     {
-        match self.lexer.finish(&mut self.names) {
+        let left = self.lexer.finish(&mut self.names);
+        known_table(&self.names);
+        match left {
             Ok(left) => match self.take_option(left) {
-                Ok(()) => match self.builder.finish() {
+                Ok(Progress::More) => match self.builder.finish() {
                     Ok(()) => Ok(()),
                     Err(place) => Err(self.refusal(place)),
                 },
+                Ok(Progress::Ended) => Ok(()),
                 Err(stop) => Err(stop),
             },
             Err(LexError::NoMemory) => Err(Stop::NoMemory),

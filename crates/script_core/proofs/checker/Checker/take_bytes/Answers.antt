@@ -1,6 +1,5 @@
 use Rattle.std.proofs.Common.{◌++◌, take}
-use Rattle.std.proofs.lemmas.Result.{err_from_is_err_and}
-use Rattle.script_core.proofs.JudgingTexts.{byte_refused, room_left, takes_more}
+use Rattle.script_core.proofs.JudgingTexts.{byte_ends, byte_refused, room_left, takes_more}
 use Rattle.script_core.proofs.checker.Checker.take_bytes.Goals as goal
 
 pub take_byte-requires : goal.take_byte-requires
@@ -12,10 +11,16 @@ take_byte-requires c = record {
   );
 }
 
-pub returns-in_err-take_byte-clause-refused : goal.returns-in_err-take_byte-clause-refused
-returns-in_err-take_byte-clause-refused c =
-    let exit = err_from_is_err_and c.from_residual.result c.from_residual.ensures.1 in
-    rw (exit.1, exit.2) (byte_refused c.args.self.now c.loop-byte.self c.args.piece.now c.loop-byte.byte-index c.in_err-take_byte.field-0.0 c.loop-byte-test.true c.loop-byte.invariant c.in_err-take_byte.ensures.refused)
+pub returns-in-Ok-Ended-clause-ended : goal.returns-in-Ok-Ended-clause-ended
+returns-in-Ok-Ended-clause-ended c =
+    byte_ends c.args.self.now c.loop-byte.self c.args.piece.now c.loop-byte.byte-index c.take_byte.new.self.count c.loop-byte-test.true c.loop-byte.invariant
+    (rw c.in-Ok-Ended.field-0-is at c.in-Ok-Ended.ensures.ended)
+
+pub returns-in-Err-clause-refused : goal.returns-in-Err-clause-refused
+returns-in-Err-clause-refused c =
+    byte_refused c.args.self.now c.loop-byte.self c.args.piece.now c.loop-byte.byte-index c.in-Err.stop c.loop-byte-test.true c.loop-byte.invariant c.in-Err.ensures.refused
 
 pub loop-byte-preserved : goal.loop-byte-preserved
-loop-byte-preserved c = takes_more c.args.self.now c.loop-byte.self c.take_byte.new.self c.args.piece.now c.loop-byte.byte-index c.loop-byte-test.true c.loop-byte.invariant c.in_ok-take_byte.ensures.ok
+loop-byte-preserved c =
+    takes_more c.args.self.now c.loop-byte.self c.take_byte.new.self c.args.piece.now c.loop-byte.byte-index c.loop-byte-test.true c.loop-byte.invariant
+    (rw c.in-Ok-More.field-0-is at c.in-Ok-More.ensures.more)

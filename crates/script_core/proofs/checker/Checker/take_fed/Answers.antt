@@ -1,19 +1,41 @@
-use Rattle.std.proofs.Common.{◌++◌}
-use Rattle.lex_core.specs.Token.{option_tokens}
-use Rattle.script_core.proofs.TakingTokens.{fed_follows, first_breaks, second_breaks}
+use Rattle.std.proofs.Common.{◌++◌, ◌∷◌, [], List, take}
+use Rattle.std.specs.Prelude.{IfErr}
+use Rattle.lex_core.specs.Token.{Token, token_of}
+use Rattle.script_core.specs.Checking.{Awaits, BreaksWithin, ExitsWithin, IfEnded, IfMore, IfRefused, TakesTokens}
+use Rattle.script_core.proofs.TakingTokens.{awaits_second_of, by_first, fed_ends, fed_more, first_breaks, first_ends, of_first, second_breaks}
 use Rattle.script_core.proofs.checker.Checker.take_fed.Goals as goal
 
-pub take_option-requires-in-Ok-clause-follows : goal.take_option-requires-in-Ok-clause-follows
-take_option-requires-in-Ok-clause-follows c =
-    let f = c.requires.follows in (f.0 ++ option_tokens c.args.self.now.names c.args.fed.first, c.in-Ok.ensures.ok f.0 f.1)
+pub take_option-requires-in-Ok-More-clause-awaits : goal.take_option-requires-in-Ok-More-clause-awaits
+take_option-requires-in-Ok-More-clause-awaits c = let w = c.requires.awaits in let a = c.in-Some.first in (
+  w.0 ++ token_of c.args.self.now.names a ∷ [],
+  awaits_second_of c.args.self.now c.take_token.new.self a c.args.fed.second w.0 (rw c.in-Ok-More.field-0-is at c.in-Ok-More.ensures.more) c.take_token.ensures.same.0 c.requires.interned.1
+      (of_first (λ (ts : List Token). Awaits w.0 (take 1 ts) c.args.self.now) c.args.self.now.names c.args.fed a c.in-Some.is w.1),
+)
 
-pub returns-in-Ok-clause-ok : goal.returns-in-Ok-clause-ok
-returns-in-Ok-clause-ok c =
-    fed_follows c.args.self.now c.take_option.new.self c.take_option-in-Ok.new.self c.args.fed c.take_option-in-Ok.result c.in-Ok.ensures.ok c.take_option.ensures.same.0 c.take_option-in-Ok.ensures.ok
+pub returns-in-Ok-More-clause-more : goal.returns-in-Ok-More-clause-more
+returns-in-Ok-More-clause-more c =
+    by_first (λ (ts : List Token). IfMore c.take_option-in-Ok-More.result (TakesTokens c.args.self.now (take 1 ts) ts c.take_option-in-Ok-More.new.self)) c.args.self.now.names c.args.fed c.in-Some.first c.in-Some.is
+    (fed_more c.args.self.now c.take_token.new.self c.take_option-in-Ok-More.new.self c.in-Some.first c.args.fed.second c.take_option-in-Ok-More.result
+    (rw c.in-Ok-More.field-0-is at c.in-Ok-More.ensures.more) c.take_token.ensures.same.0 c.requires.interned.1 c.take_option-in-Ok-More.ensures.more)
 
-pub returns-in-Ok-clause-refused : goal.returns-in-Ok-clause-refused
-returns-in-Ok-clause-refused c =
-    second_breaks c.args.self.now c.take_option.new.self c.args.fed c.take_option-in-Ok.result c.in-Ok.ensures.ok c.take_option.ensures.same.0 c.take_option-in-Ok.ensures.refused
+pub returns-in-Ok-More-clause-ended : goal.returns-in-Ok-More-clause-ended
+returns-in-Ok-More-clause-ended c =
+    by_first (λ (ts : List Token). IfEnded c.take_option-in-Ok-More.result (ExitsWithin c.args.self.now (take 1 ts) ts c.take_option-in-Ok-More.new.self.count)) c.args.self.now.names c.args.fed c.in-Some.first c.in-Some.is
+    (fed_ends c.args.self.now c.take_token.new.self c.in-Some.first c.args.fed.second c.take_option-in-Ok-More.result c.take_option-in-Ok-More.new.self.count
+    (rw c.in-Ok-More.field-0-is at c.in-Ok-More.ensures.more) c.take_token.ensures.same.0 c.requires.interned.1 c.take_option-in-Ok-More.ensures.ended)
+
+pub returns-in-Ok-More-clause-refused : goal.returns-in-Ok-More-clause-refused
+returns-in-Ok-More-clause-refused c =
+    by_first (λ (ts : List Token). IfErr c.take_option-in-Ok-More.result (λ e. IfRefused e (BreaksWithin c.args.self.now (take 1 ts) ts))) c.args.self.now.names c.args.fed c.in-Some.first c.in-Some.is
+    (second_breaks c.args.self.now c.take_token.new.self c.in-Some.first c.args.fed.second c.take_option-in-Ok-More.result
+    (rw c.in-Ok-More.field-0-is at c.in-Ok-More.ensures.more) c.take_token.ensures.same.0 c.requires.interned.1 c.take_option-in-Ok-More.ensures.refused)
+
+pub returns-in-Ok-Ended-clause-ended : goal.returns-in-Ok-Ended-clause-ended
+returns-in-Ok-Ended-clause-ended c =
+    by_first (λ (ts : List Token). ExitsWithin c.args.self.now (take 1 ts) ts c.take_token.new.self.count) c.args.self.now.names c.args.fed c.in-Some.first c.in-Some.is
+    (first_ends c.args.self.now c.in-Some.first c.args.fed.second c.take_token.new.self.count (rw c.in-Ok-Ended.field-0-is at c.in-Ok-Ended.ensures.ended))
 
 pub returns-in-Err-clause-refused : goal.returns-in-Err-clause-refused
-returns-in-Err-clause-refused c = first_breaks c.args.self.now c.args.fed c.in-Err.stop c.in-Err.ensures.refused
+returns-in-Err-clause-refused c =
+    by_first (λ (ts : List Token). IfRefused c.in-Err.stop (BreaksWithin c.args.self.now (take 1 ts) ts)) c.args.self.now.names c.args.fed c.in-Some.first c.in-Some.is
+    (first_breaks c.args.self.now c.in-Some.first c.args.fed.second c.in-Err.stop c.in-Err.ensures.refused)

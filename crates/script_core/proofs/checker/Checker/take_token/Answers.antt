@@ -1,21 +1,21 @@
-use Rattle.script_core.proofs.TakingTokens.{broken_token, refused_list, taken_inside, taken_list, tree_interned}
+use Rattle.script_core.proofs.TakingTokens.{broken_token, ended_list, refused_list, taken_inside, taken_list}
 use Rattle.script_core.proofs.checker.Checker.take_token.Goals as goal
 
-pub take_tree-requires-clause-interned : goal.take_tree-requires-clause-interned
-take_tree-requires-clause-interned c = let some = c.in-Ok-Some in
-    tree_interned c.requires.follows.0 c.args.self.now c.args.tok some.field-0 some.tree c.requires.follows.1 c.requires.interned some.field-0-is some.ensures.tree
+pub returns-in-Ok-None-clause-more : goal.returns-in-Ok-None-clause-more
+returns-in-Ok-None-clause-more c = λ tokens awaits. let none = c.in-Ok-None in
+    taken_inside tokens c.args.self.now c.args.tok c.take.new.self none.field-0 awaits c.requires.interned none.field-0-is none.ensures.unfinished none.ensures.inside none.ensures.faulty
 
-pub returns-in-Ok-None-clause-ok : goal.returns-in-Ok-None-clause-ok
-returns-in-Ok-None-clause-ok c = λ tokens follows. let none = c.in-Ok-None in
-    taken_inside tokens c.args.self.now c.args.tok c.take.new.self none.field-0 follows c.requires.interned none.field-0-is none.ensures.unfinished none.ensures.inside none.ensures.faulty
+pub returns-in-Ok-Some-clause-more : goal.returns-in-Ok-Some-clause-more
+returns-in-Ok-Some-clause-more c = let some = c.in-Ok-Some in let list = c.take_list.ensures in
+    taken_list c.args.self.now c.take_list.new.self c.args.tok some.field-0 some.tree c.take.new.self c.take_list.result c.requires.table c.requires.interned some.field-0-is some.ensures.tree some.ensures.emptied list.same.2 list.same.0 list.ok list.counted
 
-pub returns-in-Ok-Some-clause-ok : goal.returns-in-Ok-Some-clause-ok
-returns-in-Ok-Some-clause-ok c = let some = c.in-Ok-Some in let list = c.take_tree.ensures in
-    taken_list c.args.self.now c.take_tree.new.self c.args.tok some.field-0 some.tree c.take.new.self c.take_tree.result some.field-0-is some.ensures.tree some.ensures.emptied list.same.2 list.ok list.declared list.counted
+pub returns-in-Ok-Some-clause-ended : goal.returns-in-Ok-Some-clause-ended
+returns-in-Ok-Some-clause-ended c = let some = c.in-Ok-Some in let list = c.take_list.ensures in
+    ended_list c.args.self.now c.take_list.new.self c.args.tok some.field-0 some.tree c.take_list.result c.requires.table c.requires.interned some.field-0-is some.ensures.tree list.ok list.counted
 
 pub returns-in-Ok-Some-clause-refused : goal.returns-in-Ok-Some-clause-refused
 returns-in-Ok-Some-clause-refused c = let some = c.in-Ok-Some in
-    refused_list c.args.self.now c.args.tok some.field-0 some.tree c.take_tree.result some.field-0-is some.ensures.tree c.take_tree.ensures.refused
+    refused_list c.args.self.now c.args.tok some.field-0 some.tree c.take_list.result c.requires.table c.requires.interned some.field-0-is some.ensures.tree c.take_list.ensures.refused
 
 pub returns-in-Err-Fault-clause-refused : goal.returns-in-Err-Fault-clause-refused
 returns-in-Err-Fault-clause-refused c = let fault = c.in-Err-Fault in
