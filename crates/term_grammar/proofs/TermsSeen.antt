@@ -8,7 +8,7 @@ use Rattle.sexp_core.specs.declared.parts.Part.{Part}
 use Rattle.sexp_core.specs.declared.parts.Part.TheVariants as part
 use Rattle.term_grammar.specs.declared.term_form.TermForm.{TermForm}
 use Rattle.term_grammar.specs.declared.term_form.TermForm.TheVariants as form
-use Rattle.term_grammar.specs.Syntax.{symbol, named_sort, unqualified, SortedSymbol, Term, constant, qualified_term, application, let_in, for_all, there_exists, match_with, annotated, no_terms, with_term, Bindings, no_bindings, with_binding, Cases, no_cases, with_case, Notes, no_notes, with_named, with_pattern, with_attribute}
+use Rattle.term_grammar.specs.Syntax.{symbol, named_sort, unqualified, SortedSymbol, Term, constant, qualified_term, application, let_in, for_all, there_exists, match_with, annotated, no_terms, with_term, Bindings, no_bindings, with_binding, Cases, no_cases, with_case, Notes, no_notes}
 use Rattle.term_grammar.specs.declared.words.TermWord.{TermWord}
 use Rattle.term_grammar.specs.declared.words.TermWord.TheVariants as word
 use Rattle.term_grammar.specs.declared.term_form.NoteForm.{NoteForm}
@@ -16,7 +16,7 @@ use Rattle.term_grammar.specs.declared.term_form.NoteForm.TheVariants as note
 use Rattle.term_grammar.specs.Words.{is_constant}
 use Rattle.term_grammar.specs.FirstParts.{any_first, is_empty, guard}
 use Rattle.term_grammar.specs.TermForms.{named_parts, is_pattern, case_parts, note_parts, is_qualified, binder_parts, match_parts, annotation_parts, word_of, word_form, application_form, or_at, term_form}
-use Rattle.term_grammar.specs.Reads.{made_of, made_of_two, no_token, pattern_of, with_sorted, read_sort, read_qualified, read_sorted, read_term, read_terms, read_bindings, read_cases, read_notes}
+use Rattle.term_grammar.specs.Reads.{made_of, made_of_two, no_token, pattern_of, with_sorted, read_sort, read_qualified, read_sorted, read_term, read_terms, read_bindings, read_cases, read_notes, with_named, with_pattern, with_attribute}
 use Rattle.term_grammar.specs.FormReading.{term_by}
 use Rattle.term_grammar.specs.SortViews.{sort_of}
 use Rattle.term_grammar.specs.TermViews.{term_of, terms_of, qualified_of, bindings_of, sorted_of, cases_of, notes_of, byte_in}
@@ -173,12 +173,12 @@ notes_end ts e = ap notes_or (read_notes-first ts ∙ ap notes_by e)
 notes_made : (ts : Sexps Tok) (o : Option (NoteForm × Sexps Tok)) → note_parts ts ≡ o → read_notes ts ≡ notes_by o
 notes_made ts o e = read_notes-first ts ∙ ap notes_by e
 
-pub named_seen : (ts : Sexps Tok) (k n : Tok) (us : Sexps Tok) → note_parts ts ≡ Some (note.Named k n, us) → IsOk (read_notes ts)
-    → IsOk (read_notes us) × (notes_of ts ≡ with_named k n (notes_of us))
-named_seen ts k n us e h =
-    let r : read_notes ts ≡ made_of (with_named k n) (read_notes us) = notes_made ts _ e in
-    let ok : IsOk (made_of (with_named k n) (read_notes us)) = sym (ap (λ (y : Result Notes ℕ). is_ok y) r) ∙ h in
-    let m = made_of_ok (with_named k n) (read_notes us) no_notes no_notes ok in
+pub named_seen : (ts : Sexps Tok) (n : Tok) (us : Sexps Tok) → note_parts ts ≡ Some (note.Named n, us) → IsOk (read_notes ts)
+    → IsOk (read_notes us) × (notes_of ts ≡ with_named n (notes_of us))
+named_seen ts n us e h =
+    let r : read_notes ts ≡ made_of (with_named n) (read_notes us) = notes_made ts _ e in
+    let ok : IsOk (made_of (with_named n) (read_notes us)) = sym (ap (λ (y : Result Notes ℕ). is_ok y) r) ∙ h in
+    let m = made_of_ok (with_named n) (read_notes us) no_notes no_notes ok in
     (m.0, ap notes_or r ∙ m.1)
 
 pub attribute_seen : (ts : Sexps Tok) (k : Tok) (v : Option Part) (us : Sexps Tok) → note_parts ts ≡ Some (note.Attribute k v, us) → IsOk (read_notes ts)
@@ -189,12 +189,12 @@ attribute_seen ts k v us e h =
     let m = made_of_ok (with_attribute k (option_map whole v)) (read_notes us) no_notes no_notes ok in
     (m.0, ap notes_or r ∙ m.1)
 
-pub terms_seen : (ts : Sexps Tok) (k : Tok) (vs us : Sexps Tok) → note_parts ts ≡ Some (note.Pattern k vs, us) → IsOk (read_notes ts)
-    → IsOk (read_terms vs) × (IsOk (read_notes us) × (notes_of ts ≡ with_pattern k (terms_of vs) (notes_of us)))
-terms_seen ts k vs us e h =
-    let r : read_notes ts ≡ made_of_two (with_pattern k) (read_terms vs) (read_notes us) = notes_made ts _ e in
-    let ok : IsOk (made_of_two (with_pattern k) (read_terms vs) (read_notes us)) = sym (ap (λ (y : Result Notes ℕ). is_ok y) r) ∙ h in
-    let m = made_of_two_ok (with_pattern k) (read_terms vs) (read_notes us) no_terms no_notes no_notes ok in
+pub terms_seen : (ts : Sexps Tok) (vs us : Sexps Tok) → note_parts ts ≡ Some (note.Pattern vs, us) → IsOk (read_notes ts)
+    → IsOk (read_terms vs) × (IsOk (read_notes us) × (notes_of ts ≡ with_pattern (terms_of vs) (notes_of us)))
+terms_seen ts vs us e h =
+    let r : read_notes ts ≡ made_of_two with_pattern (read_terms vs) (read_notes us) = notes_made ts _ e in
+    let ok : IsOk (made_of_two with_pattern (read_terms vs) (read_notes us)) = sym (ap (λ (y : Result Notes ℕ). is_ok y) r) ∙ h in
+    let m = made_of_two_ok with_pattern (read_terms vs) (read_notes us) no_terms no_notes no_notes ok in
     (m.0, (m.1.0, ap notes_or r ∙ m.1.1))
 
 no_variables_seen : sorted_of nil ≡ []
