@@ -1,5 +1,5 @@
 -- Codes of the abstract syntax: each constructor as one s-expression, so that sorts and terms may be the values of views.
-use Rattle.std.specs.Prelude.{◌≡◌, ℕ, List, [], ◌∷◌, refl}
+use Rattle.std.specs.Prelude.{◌≡◌, List, [], ◌∷◌, refl}
 use Rattle.std.specs.Coded.{Coded, code_by}
 use Rattle.std.proofs.Common.{zero, suc}
 use Rattle.lex_core.specs.declared.token.Tok.{Tok}

@@ -16,4 +16,5 @@ pub mod QualifiedParts
 pub mod QualifiedViews
 pub mod AttributeViews
 pub mod NoteParts
+pub mod NoteForms
 pub mod TermViews

@@ -1,7 +1,4 @@
 -- The attribute of a term by its parts.
-use Rattle.std.specs.Prelude.{Option, Some, None}
-use Rattle.lex_core.specs.declared.token.Tok.{Tok}
-use Rattle.sexp_core.specs.Sexp.{Sexp}
 use Rattle.term_grammar.specs.declared.note.RawNoteKind.{RawNoteKind}
 use Rattle.term_grammar.specs.declared.note.RawNoteKind.TheVariants as kind
 use Rattle.term_grammar.specs.Syntax.{Note, named_note, pattern_note, attribute_note}

@@ -1,5 +1,6 @@
 //! The attributes of a term, as views of their trees.
 ghost use Rattle.std.specs.Prelude.{◌≡◌};
+ghost use Rattle.term_grammar.specs.NoteForms.{note_of, NoteReads};
 ghost use Rattle.term_grammar.specs.TermViews.{note_kind, SplitsNotes};
 
 use crate::attribute::RawAttribute;
@@ -83,16 +84,24 @@ impl<'t> RawNotes<'t> {
         let Some((form, trees)) = note_parts(&self.trees) else {
             return None;
         };
-        let kind = match form {
-            NoteForm::Named { name } => RawNoteKind::Named { name },
-            NoteForm::Pattern { terms } => {
-                let terms = RawTerms { trees: terms };
-                RawNoteKind::Pattern { terms }
-            }
-            NoteForm::Attribute { keyword, value } => {
-                RawNoteKind::Attribute(RawAttribute::new(keyword, value))
-            }
-        };
-        Some((RawNote { kind }, RawNotes { trees }))
+        Some((note(form), RawNotes { trees }))
     }
+}
+
+// The attribute of a form.
+fn note<'t>(form: NoteForm<'t>) -> RawNote<'t>
+    requires { NoteReads form }
+    ensures { result ≡ note_of form.entry }
+{
+    let kind = match form {
+        NoteForm::Named { name } => RawNoteKind::Named { name },
+        NoteForm::Pattern { terms } => {
+            let terms = RawTerms { trees: terms };
+            RawNoteKind::Pattern { terms }
+        }
+        NoteForm::Attribute { keyword, value } => {
+            RawNoteKind::Attribute(RawAttribute::new(keyword, value))
+        }
+    };
+    RawNote { kind }
 }

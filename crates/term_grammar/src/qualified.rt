@@ -94,8 +94,9 @@ impl<'t> RawQualified<'t> {
         ensures { result ≡ qualified_kind self.now }
     {
         match &self.parts {
-            QualifiedParts::Identifier(identifier) =>
-                RawQualifiedKind::Identifier(identifier.reborrow()),
+            QualifiedParts::Identifier(identifier) => RawQualifiedKind::Identifier(
+                identifier.reborrow(),
+            ),
             QualifiedParts::As {
                 identifier,
                 sort,

@@ -103,7 +103,12 @@ impl<'t> RawSort<'t> {
     {
         match sort_form(&self.tree) {
             Ok(SortForm::Identifier) => RawSortKind::Identifier(identifier(&self.tree)),
-            Ok(SortForm::Applied { identifier: head, args }) => RawSortKind::Applied {
+            Ok(
+                SortForm::Applied {
+                    identifier: head,
+                    args,
+                },
+            ) => RawSortKind::Applied {
                 identifier: identifier(&head),
                 args: RawSorts { trees: args },
             },

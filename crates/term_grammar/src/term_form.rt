@@ -47,9 +47,16 @@ pub enum TermForm<'t> {
 /// An attribute of a term, by its production.
 #[derive(Drop)]
 pub enum NoteForm<'t> {
-    Named { name: Tok },
-    Pattern { terms: Trees<'t> },
-    Attribute { keyword: Tok, value: Option<RawValue<'t>> },
+    Named {
+        name: Tok,
+    },
+    Pattern {
+        terms: Trees<'t>,
+    },
+    Attribute {
+        keyword: Tok,
+        value: Option<RawValue<'t>>,
+    },
 }
 
 /// The parts of `( as identifier sort )`.
