@@ -5,3 +5,6 @@ pub mod FormSizes
 pub mod JudgedLists
 pub mod SortsSeen
 pub mod TermsSeen
+pub mod Bytes
+pub mod QualifiedSeen
+pub mod Lengths
