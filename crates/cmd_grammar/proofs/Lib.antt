@@ -1,1 +1,3 @@
+pub mod EachTree
+pub mod JudgedDeclarations
 pub mod JudgedCommands

@@ -29,10 +29,17 @@ pub record FunDec : Type 0 where
   pub params : List SortedSymbol
   pub result : Sort
 
--- symbol | ( not symbol )
+-- symbol ( variable* ) sort term
+pub record FunDef : Type 0 where
+  pub name : Tok
+  pub params : List SortedSymbol
+  pub result : Sort
+  pub body : Term
+
+-- symbol | ( not symbol ). The token of `not` is kept: it is the function symbol of the literal read as a term.
 pub data Literal : Type 0 where
   positive : Tok → Literal
-  negative : ℕ → Tok → Literal
+  negative : ℕ → Tok → Tok → Literal
 
 -- One case for each command. The value of an attribute is a tree.
 pub data Command : Type 0 where
@@ -44,8 +51,8 @@ pub data Command : Type 0 where
   declare_datatypes : List SortDec → List DataDec → Command
   declare_fun : Tok → Sorts → Sort → Command
   declare_sort : Tok → Tok → Command
-  define_fun : Tok → List SortedSymbol → Sort → Term → Command
-  define_fun_rec : Tok → List SortedSymbol → Sort → Term → Command
+  define_fun : FunDef → Command
+  define_fun_rec : FunDef → Command
   define_funs_rec : List FunDec → Terms → Command
   define_sort : Tok → List Tok → Sort → Command
   echo : Tok → Command

@@ -1,7 +1,10 @@
+pub mod TreeLists
 pub mod CommandWords
 pub mod DeclarationForms
 pub mod CommandForms
 pub mod Commands
+pub mod DeclarationReads
+pub mod DeclarationViews
 pub mod CommandReads
 pub mod CommandAnswers
 pub mod WordNumbers

@@ -11,7 +11,10 @@ use crate::declaration_form::{
 use lex_core::{Place, Tok};
 use sexp_core::{Part, Trees};
 use sig_table::Code;
-use term_grammar::{any_first, are_named, are_symbols, guard, is_empty, is_keyword, is_numeral, is_string, list_first, symbol_first, token_first};
+use term_grammar::{
+    any_first, are_named, are_symbols, guard, is_empty, is_keyword, is_numeral, is_string,
+    list_first, symbol_first, token_first,
+};
 
 /// A command, by its form.
 #[derive(Drop)]

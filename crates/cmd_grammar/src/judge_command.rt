@@ -1,7 +1,9 @@
 //! Finds why a tree is no command.
 ghost use Rattle.std.specs.Prelude.{◌≡◌};
 ghost use Rattle.sexp_core.specs.Parts.{whole};
-ghost use Rattle.cmd_grammar.specs.CommandReads.{read_constructors, read_data_dec, read_data_decs, read_fun_decs, command_by, read_command, command_judged};
+ghost use Rattle.cmd_grammar.specs.TreeLists.{read_all};
+ghost use Rattle.cmd_grammar.specs.DeclarationReads.{read_constructor_dec, read_data_dec, read_fun_dec};
+ghost use Rattle.cmd_grammar.specs.CommandReads.{command_by, read_command, command_judged};
 ghost use Rattle.term_grammar.specs.FormReading.{judged};
 
 use crate::command_form::{CommandForm, command_form};
@@ -11,40 +13,47 @@ use sexp_core::{Part, Trees};
 use sig_table::Code;
 use term_grammar::{judge_sort, judge_sorted, judge_sorts, judge_term, judge_terms};
 
-#[tactic(auto, using(crate::proofs::JudgedCommands::constructors_rules))]
-fn judge_constructors(trees: &Trees) -> Result<(), u32>
-    ensures { result ≡ judged (read_constructors trees.now) }
+#[tactic(auto, using(crate::proofs::JudgedDeclarations::constructor_dec_rules))]
+fn judge_constructor_dec(tree: &Part) -> Result<(), u32>
+    ensures { result ≡ judged (read_constructor_dec (whole tree.now)) }
+{
+    match tree {
+        Part::Atom(tok) => Err(tok.at),
+        Part::List { at, parts } => match constructor_dec_parts(parts) {
+            Some((_, selectors)) => judge_sorted(&selectors),
+            None => Err(*at),
+        },
+    }
+}
+
+#[tactic(auto, using(crate::proofs::JudgedDeclarations::list_rules))]
+fn judge_constructor_decs(trees: &Trees) -> Result<(), u32>
+    ensures { result ≡ judged (read_all read_constructor_dec trees.now) }
 {
     let mut next = trees.split();
     while let Some((first, rest)) = next {
-        let Part::List { parts, .. } = first else {
-            return Ok(());
-        };
-        let Some((_, selectors)) = constructor_dec_parts(&parts) else {
-            return Ok(());
-        };
-        judge_sorted(&selectors)?;
+        judge_constructor_dec(&first)?;
         next = rest.split();
     }
     Ok(())
 }
 
-#[tactic(auto, using(crate::proofs::JudgedCommands::data_dec_rules))]
+#[tactic(auto, using(crate::proofs::JudgedDeclarations::data_dec_rules))]
 fn judge_data_dec(tree: &Part) -> Result<(), u32>
     ensures { result ≡ judged (read_data_dec (whole tree.now)) }
 {
     match tree {
         Part::Atom(tok) => Err(tok.at),
         Part::List { parts, .. } => match parametric_parts(parts) {
-            Some((_, constructors)) => judge_constructors(&constructors),
-            None => judge_constructors(parts),
+            Some((_, constructors)) => judge_constructor_decs(&constructors),
+            None => judge_constructor_decs(parts),
         },
     }
 }
 
-#[tactic(auto, using(crate::proofs::JudgedCommands::data_decs_rules))]
+#[tactic(auto, using(crate::proofs::JudgedDeclarations::list_rules))]
 fn judge_data_decs(trees: &Trees) -> Result<(), u32>
-    ensures { result ≡ judged (read_data_decs trees.now) }
+    ensures { result ≡ judged (read_all read_data_dec trees.now) }
 {
     let mut next = trees.split();
     while let Some((first, rest)) = next {
@@ -54,20 +63,29 @@ fn judge_data_decs(trees: &Trees) -> Result<(), u32>
     Ok(())
 }
 
-#[tactic(auto, using(crate::proofs::JudgedCommands::fun_decs_rules))]
+#[tactic(auto, using(crate::proofs::JudgedDeclarations::fun_dec_rules))]
+fn judge_fun_dec(tree: &Part) -> Result<(), u32>
+    ensures { result ≡ judged (read_fun_dec (whole tree.now)) }
+{
+    match tree {
+        Part::Atom(tok) => Err(tok.at),
+        Part::List { at, parts } => match fun_dec_parts(parts) {
+            Some((_, params, result)) => {
+                judge_sorted(&params)?;
+                judge_sort(&result)
+            }
+            None => Err(*at),
+        },
+    }
+}
+
+#[tactic(auto, using(crate::proofs::JudgedDeclarations::list_rules))]
 fn judge_fun_decs(trees: &Trees) -> Result<(), u32>
-    ensures { result ≡ judged (read_fun_decs trees.now) }
+    ensures { result ≡ judged (read_all read_fun_dec trees.now) }
 {
     let mut next = trees.split();
     while let Some((first, rest)) = next {
-        let Part::List { parts, .. } = first else {
-            return Ok(());
-        };
-        let Some((_, params, sort)) = fun_dec_parts(&parts) else {
-            return Ok(());
-        };
-        judge_sorted(&params)?;
-        judge_sort(&sort)?;
+        judge_fun_dec(&first)?;
         next = rest.split();
     }
     Ok(())

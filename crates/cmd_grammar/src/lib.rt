@@ -7,9 +7,14 @@ mod command_word;
 mod declaration_form;
 mod judge_command;
 mod laws;
+mod literal;
+mod sort_dec;
+mod tree_list;
 
 pub use command::{GrError, RawCommand, read_command};
 pub use laws::word_laws;
+pub use literal::{RawLiteral, RawLiteralKind, RawLiterals};
+pub use sort_dec::{RawSortDec, RawSortDecs};
 
 #[cfg(test)]
 mod tests;
