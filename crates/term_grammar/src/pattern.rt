@@ -1,6 +1,8 @@
 //! Patterns and the cases of a `match`, as views of their trees.
-ghost use Rattle.std.specs.Prelude.{◌≡◌};
+ghost use Rattle.std.specs.Prelude.{◌≡◌, IsTrue};
 ghost use Rattle.term_grammar.specs.Syntax.{pattern_at};
+ghost use Rattle.term_grammar.specs.TermForms.{are_symbols};
+ghost use Rattle.term_grammar.specs.Reads.{tokens_of};
 ghost use Rattle.term_grammar.specs.IdentifierViews.{SplitsTokens};
 ghost use Rattle.term_grammar.specs.TermViews.{pattern_kind, SplitsCases};
 
@@ -124,6 +126,14 @@ impl<'t> RawPattern<'t> {
 }
 
 impl<'t> RawSymbols<'t> {
+    /// The symbols that some trees are.
+    pub fn of(trees: Trees<'t>) -> RawSymbols<'t>
+        requires { IsTrue (are_symbols trees) }
+        ensures { result ≡ tokens_of trees.entry }
+    {
+        RawSymbols { trees }
+    }
+
     /// The first symbol, and the others. It answers `None` exactly where none is left.
     pub fn split(&self) -> Option<(Tok, RawSymbols<'t>)>
         ensures { SplitsTokens self.now result }
