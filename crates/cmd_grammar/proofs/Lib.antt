@@ -1,3 +1,2 @@
 pub mod EachTree
-pub mod JudgedDeclarations
-pub mod JudgedCommands
+pub mod ReadAll

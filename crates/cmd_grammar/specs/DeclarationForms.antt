@@ -4,11 +4,11 @@ use Rattle.std.specs.Prelude.{Bool, false, not, ◌&&◌, ◌||◌, ◌==◌, Op
 use Rattle.lex_core.specs.declared.token.Tok.{Tok}
 use Rattle.sexp_core.specs.Sexp.{Sexp, atom, list, Sexps}
 use Rattle.sexp_core.specs.declared.parts.Part.{Part}
-use Rattle.sexp_core.specs.declared.parts.Part.TheVariants as part
 use Rattle.term_grammar.specs.declared.words.TheConstants.{PAR, NOT, TRUE, FALSE, GLOBAL_DECLARATIONS}
 use Rattle.term_grammar.specs.Words.{is_symbol, is_numeral, is_reserved, is_keyword, is_key}
 use Rattle.term_grammar.specs.FirstParts.{◌>>=◌, any_first, token_first, symbol_first, list_first, is_empty, guard}
 use Rattle.term_grammar.specs.TermForms.{are_symbols, are_named, value_first}
+use Rattle.cmd_grammar.specs.declared.declaration_form.FunDefParts.{FunDefParts}
 use Rattle.cmd_grammar.specs.TreeLists.{each_tree}
 
 -- symbol numeral
@@ -83,6 +83,17 @@ is_fun_dec (list at ts) = is_some (fun_dec_parts ts)
 abbrev pub are_fun_decs : Sexps Tok → Bool
 are_fun_decs ts = list_all is_fun_dec (each_tree ts)
 
+-- symbol ( variable* ) sort term
+abbrev pub fun_def_parts : Sexps Tok → Option FunDefParts
+fun_def_parts ts = do
+  a ← symbol_first ts
+  b ← list_first a.1
+  c ← any_first b.1
+  d ← any_first c.1
+  _ ← guard (are_named b.0)
+  _ ← guard (is_empty d.1)
+  Some (record { name = a.0; params = b.0; result = c.0; body = d.0 })
+
 -- not symbol
 abbrev pub negated_parts : Sexps Tok → Option (Tok × Tok)
 negated_parts ts = do
@@ -101,7 +112,7 @@ abbrev pub are_literals : Sexps Tok → Bool
 are_literals ts = list_all is_literal (each_tree ts)
 
 -- keyword | keyword value
-abbrev pub attribute_parts : Sexps Tok → Option (Tok × Option Part)
+abbrev pub attribute_parts : Sexps Tok → Option (Tok × Option (Sexp Tok))
 attribute_parts ts = do
   k ← token_first ts
   _ ← guard (is_keyword k.0)
@@ -109,11 +120,11 @@ attribute_parts ts = do
   Some (k.0, (value_first k.1).0)
 
 -- the symbol `true` or the symbol `false`
-abbrev pub is_truth : Option Part → Bool
+abbrev pub is_truth : Option (Sexp Tok) → Bool
 is_truth None = false
-is_truth (Some (part.Atom t)) = is_symbol t && (t.name == TRUE || t.name == FALSE)
-is_truth (Some (part.List at ts)) = false
+is_truth (Some (atom t)) = is_symbol t && (t.name == TRUE || t.name == FALSE)
+is_truth (Some (list at ts)) = false
 
 -- what a command sets `:global-declarations` to is a truth value
-abbrev pub option_fits : Tok → Option Part → Bool
+abbrev pub option_fits : Tok → Option (Sexp Tok) → Bool
 option_fits k v = not (is_key GLOBAL_DECLARATIONS k) || is_truth v

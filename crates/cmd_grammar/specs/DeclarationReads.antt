@@ -6,8 +6,9 @@ use Rattle.lex_core.specs.declared.token.Tok.{Tok}
 use Rattle.sexp_core.specs.Sexp.{Sexp, atom, list, Sexps}
 use Rattle.sexp_core.specs.Parts.{whole}
 use Rattle.sexp_core.specs.declared.parts.Part.{Part}
-use Rattle.term_grammar.specs.Syntax.{SortedSymbol, Sort, Term}
+use Rattle.term_grammar.specs.Syntax.{symbol, SortedSymbol, Sort, named_sort, Term}
 use Rattle.term_grammar.specs.Reads.{made_of, made_of_two, made_of_three, tokens_of, no_token, read_sort, read_sorted, read_term}
+use Rattle.cmd_grammar.specs.declared.declaration_form.FunDefParts.{FunDefParts}
 use Rattle.cmd_grammar.specs.Commands.{SortDec, ConstructorDec, DataDec, plain_data, parametric_data, FunDec, FunDef, Literal, positive, negative}
 use Rattle.cmd_grammar.specs.DeclarationForms.{sort_dec_parts, constructor_dec_parts, parametric_parts, fun_dec_parts, negated_parts}
 use Rattle.cmd_grammar.specs.TreeLists.{read_all}
@@ -38,7 +39,7 @@ constructor_dec_by at (Some p) = made_of (constructor_dec at p.0) (read_sorted p
 constructor_dec_by at None = Err at
 
 -- ( symbol selector* )
-unfoldable pub read_constructor_dec : Sexp Tok → Result ConstructorDec ℕ
+abbrev pub read_constructor_dec : Sexp Tok → Result ConstructorDec ℕ
 read_constructor_dec (atom t) = Err t.at
 read_constructor_dec (list at ts) = constructor_dec_by at (constructor_dec_parts ts)
 
@@ -47,7 +48,7 @@ data_dec_by at ts (Some p) = made_of (parametric_data at (tokens_of p.0)) (read_
 data_dec_by at ts None = made_of (plain_data at) (read_all read_constructor_dec ts)
 
 -- ( con_dec+ ) | ( par ( symbol+ ) ( con_dec+ ) )
-unfoldable pub read_data_dec : Sexp Tok → Result DataDec ℕ
+abbrev pub read_data_dec : Sexp Tok → Result DataDec ℕ
 read_data_dec (atom t) = Err t.at
 read_data_dec (list at ts) = data_dec_by at ts (parametric_parts ts)
 
@@ -59,7 +60,7 @@ fun_dec_by at (Some p) = made_of_two (fun_dec at p.0) (read_sorted p.1) (read_so
 fun_dec_by at None = Err at
 
 -- ( symbol ( variable* ) sort )
-unfoldable pub read_fun_dec : Sexp Tok → Result FunDec ℕ
+abbrev pub read_fun_dec : Sexp Tok → Result FunDec ℕ
 read_fun_dec (atom t) = Err t.at
 read_fun_dec (list at ts) = fun_dec_by at (fun_dec_parts ts)
 
@@ -67,8 +68,8 @@ abbrev pub fun_def : Tok → List SortedSymbol → Sort → Term → FunDef
 fun_def n ps r b = record { name = n; params = ps; result = r; body = b }
 
 -- symbol ( variable* ) sort term
-abbrev pub read_fun_def : Tok → Sexps Tok → Part → Part → Result FunDef ℕ
-read_fun_def n ps r b = made_of_three (fun_def n) (read_sorted ps) (read_sort (whole r)) (read_term (whole b))
+abbrev pub read_fun_def : FunDefParts → Result FunDef ℕ
+read_fun_def f = made_of_three (fun_def f.name) (read_sorted f.params) (read_sort (whole f.result)) (read_term (whole f.body))
 
 -- What trees read as, where they read.
 
@@ -77,3 +78,6 @@ constructor_dec_of t = result_unwrap_or (read_constructor_dec t) (constructor_de
 
 abbrev pub data_dec_of : Sexp Tok → DataDec
 data_dec_of t = result_unwrap_or (read_data_dec t) (plain_data 0 [])
+
+abbrev pub fun_dec_of : Sexp Tok → FunDec
+fun_dec_of t = result_unwrap_or (read_fun_dec t) (fun_dec 0 no_token [] (named_sort (symbol no_token)))

@@ -1,5 +1,6 @@
 -- Trees that stand one after the other, each read by itself.
-use Rattle.std.specs.Prelude.{◌≡◌, ℕ, List, [], ◌∷◌, Option, Some, None, Result, Ok}
+use Rattle.std.specs.Prelude.{◌≡◌, ℕ, List, [], ◌∷◌, Option, Some, None, Result, Ok, is_ok, IsTrue}
+use Rattle.std.specs.List.{list_all}
 use Rattle.lex_core.specs.declared.token.Tok.{Tok}
 use Rattle.sexp_core.specs.Sexp.{Sexp, Sexps, nil, cons}
 use Rattle.term_grammar.specs.Reads.{made_of_two}
@@ -13,6 +14,10 @@ each_tree (cons t ts) = t ∷ each_tree ts
 abbrev pub read_all : {A : Type 0} → (Sexp Tok → Result A ℕ) → Sexps Tok → Result (List A) ℕ
 read_all read nil = Ok []
 read_all read (cons t ts) = made_of_two ◌∷◌ (read t) (read_all read ts)
+
+-- each of the trees reads
+abbrev pub EachReads : {A : Type 0} → (Sexp Tok → Result A ℕ) → Sexps Tok → Type 0
+EachReads read ts = IsTrue (list_all (λ t. is_ok (read t)) (each_tree ts))
 
 -- an option of the first part and the others, where a part is seen by a function
 abbrev pub SplitsBy : {A B : Type 0} → (A → B) → List B → Option (A × List B) → Type 0

@@ -6,9 +6,9 @@ ghost use Rattle.cmd_grammar.specs.DeclarationForms as definition;
 use lex_core::Tok;
 use sexp_core::{Part, Trees};
 use term_grammar::{
-    FALSE, GLOBAL_DECLARATIONS, NOT, PAR, TRUE, any_first, are_named, are_symbols, guard, is_empty,
-    is_key, is_keyword, is_numeral, is_reserved, is_symbol, list_first, symbol_first, token_first,
-    value_first,
+    FALSE, GLOBAL_DECLARATIONS, NOT, PAR, RawValue, RawValueKind, TRUE, any_first, are_named,
+    are_symbols, guard, is_empty, is_key, is_keyword, is_numeral, is_reserved, is_symbol,
+    list_first, symbol_first, token_first, value_first,
 };
 
 /// The parts of `( symbol numeral )`.
@@ -157,6 +157,33 @@ pub(crate) fn are_fun_decs(trees: &Trees) -> bool
     true
 }
 
+/// The parts of the definition of a function: `symbol ( variable* ) sort term`.
+#[derive(Drop)]
+pub(crate) struct FunDefParts<'t> {
+    pub name: Tok,
+    pub params: Trees<'t>,
+    pub result: Part<'t>,
+    pub body: Part<'t>,
+}
+
+/// The parts of `symbol ( variable* ) sort term`.
+pub(crate) fn fun_def_parts<'t>(parts: &Trees<'t>) -> Option<FunDefParts<'t>>
+    ensures { result ≡ definition.fun_def_parts parts.now }
+{
+    let (name, rest) = symbol_first(parts)?;
+    let (params, rest) = list_first(&rest)?;
+    let (result, rest) = any_first(&rest)?;
+    let (body, rest) = any_first(&rest)?;
+    guard(are_named(&params))?;
+    guard(is_empty(&rest))?;
+    Some(FunDefParts {
+        name,
+        params,
+        result,
+        body,
+    })
+}
+
 /// The two symbols of `( not symbol )`.
 pub(crate) fn negated_parts(parts: &Trees) -> Option<(Tok, Tok)>
     ensures { result ≡ definition.negated_parts parts.now }
@@ -193,7 +220,7 @@ pub(crate) fn are_literals(trees: &Trees) -> bool
 }
 
 /// The parts of an attribute: a keyword, and its value if there is one.
-pub(crate) fn attribute_parts<'t>(parts: &Trees<'t>) -> Option<(Tok, Option<Part<'t>>)>
+pub(crate) fn attribute_parts<'t>(parts: &Trees<'t>) -> Option<(Tok, Option<RawValue<'t>>)>
     ensures { result ≡ definition.attribute_parts parts.now }
 {
     let (key, rest) = token_first(parts)?;
@@ -203,19 +230,22 @@ pub(crate) fn attribute_parts<'t>(parts: &Trees<'t>) -> Option<(Tok, Option<Part
     Some((key, value))
 }
 
-fn is_truth(value: &Option<Part>) -> bool
+fn is_truth(value: &Option<RawValue>) -> bool
     ensures { result ≡ definition.is_truth value.now }
 {
-    match value {
-        Some(Part::Atom(tok)) => {
-            is_symbol(tok) && (tok.name.number() == TRUE || tok.name.number() == FALSE)
+    let Some(value) = value else {
+        return false;
+    };
+    match value.kind() {
+        RawValueKind::Symbol(tok) => {
+            is_symbol(&tok) && (tok.name.number() == TRUE || tok.name.number() == FALSE)
         }
-        Some(Part::List { .. }) | None => false,
+        RawValueKind::Constant(_) | RawValueKind::List(_) => false,
     }
 }
 
 /// Whether the option may have this value: `:global-declarations` is set to `true` or `false`.
-pub(crate) fn option_fits(key: &Tok, value: &Option<Part>) -> bool
+pub(crate) fn option_fits(key: &Tok, value: &Option<RawValue>) -> bool
     ensures { result ≡ definition.option_fits key.now value.now }
 {
     !is_key(key, GLOBAL_DECLARATIONS) || is_truth(value)
