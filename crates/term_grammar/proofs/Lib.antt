@@ -7,3 +7,4 @@ pub mod SortsSeen
 pub mod TermsSeen
 pub mod Bytes
 pub mod QualifiedSeen
+pub mod Lengths

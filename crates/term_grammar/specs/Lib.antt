@@ -9,6 +9,7 @@ pub mod FormReading
 pub mod Codes
 pub mod Readings
 pub mod WordNumbers
+pub mod ListViews
 pub mod IdentifierParts
 pub mod IdentifierViews
 pub mod SortViews
