@@ -1,1 +1,2 @@
-pub mod JudgedCommands
+pub mod EachTree
+pub mod ReadAll

@@ -1,5 +1,6 @@
--- The form of a command: the parts of its production, where any tree is a sort or a term.
-use Rattle.std.specs.Prelude.{ℕ, Bool, true, false, not, ◌==◌, Option, Some, None, Result, Ok, Err, if◌then◌else◌}
+-- The form of a command: the parts of its production, where any tree is a sort or a term. A command without sorts and
+-- terms is complete.
+use Rattle.std.specs.Prelude.{ℕ, map, Bool, true, false, not, ◌==◌, Option, Some, None, Result, Ok, Err, if◌then◌else◌}
 use Rattle.sig_table.specs.declared.code.Code.TheVariants as code
 use Rattle.lex_core.specs.declared.token.Tok.{Tok}
 use Rattle.lex_core.specs.declared.place.Place.{Place}
@@ -9,10 +10,16 @@ use Rattle.cmd_grammar.specs.declared.command_word.CommandWord.{CommandWord}
 use Rattle.cmd_grammar.specs.declared.command_word.CommandWord.TheVariants as command
 use Rattle.cmd_grammar.specs.declared.command_form.CommandForm.{CommandForm}
 use Rattle.cmd_grammar.specs.declared.command_form.CommandForm.TheVariants as form
+use Rattle.cmd_grammar.specs.declared.command_form.DeclarationForm.TheVariants as declaration
+use Rattle.cmd_grammar.specs.declared.command_kind.RawCommandKind.{RawCommandKind}
+use Rattle.cmd_grammar.specs.declared.command_kind.RawCommandKind.TheVariants as kind
 use Rattle.term_grammar.specs.Words.{is_numeral, is_string, is_keyword}
 use Rattle.term_grammar.specs.FirstParts.{◌>>=◌, any_first, token_first, symbol_first, list_first, is_empty, guard}
-use Rattle.term_grammar.specs.TermForms.{are_symbols, are_named}
-use Rattle.cmd_grammar.specs.DeclarationForms.{are_sort_decs, is_data_dec, are_data_decs, are_fun_decs, are_literals, attribute_parts, option_fits}
+use Rattle.term_grammar.specs.TermForms.{are_symbols}
+use Rattle.term_grammar.specs.Reads.{tokens_of, attribute_of}
+use Rattle.cmd_grammar.specs.TreeLists.{each_tree}
+use Rattle.cmd_grammar.specs.DeclarationReads.{literal_of, sort_dec_of}
+use Rattle.cmd_grammar.specs.DeclarationForms.{are_sort_decs, is_data_dec, are_data_decs, are_fun_decs, are_literals, attribute_parts, option_fits, fun_def_parts}
 use Rattle.cmd_grammar.specs.CommandWords.{command_begun_by}
 
 -- ( assert term )
@@ -28,7 +35,7 @@ check_sat_assuming_form ts = do
   a ← list_first ts
   _ ← guard (are_literals a.0)
   _ ← guard (is_empty a.1)
-  Some (form.CheckSatAssuming a.0)
+  Some (form.Complete (kind.CheckSatAssuming (map literal_of (each_tree a.0))))
 
 -- ( declare-const symbol sort )
 abbrev pub declare_const_form : Sexps Tok → Option CommandForm
@@ -36,7 +43,7 @@ declare_const_form ts = do
   a ← symbol_first ts
   b ← any_first a.1
   _ ← guard (is_empty b.1)
-  Some (form.DeclareConst a.0 b.0)
+  Some (form.Declaration (declaration.Const a.0 b.0))
 
 -- ( declare-datatype symbol data_dec )
 abbrev pub declare_datatype_form : Sexps Tok → Option CommandForm
@@ -45,7 +52,7 @@ declare_datatype_form ts = do
   b ← any_first a.1
   _ ← guard (is_data_dec (whole b.0))
   _ ← guard (is_empty b.1)
-  Some (form.DeclareDatatype a.0 b.0)
+  Some (form.Declaration (declaration.Datatype a.0 b.0))
 
 -- ( declare-datatypes ( sort_dec+ ) ( data_dec+ ) )
 abbrev pub declare_datatypes_form : Sexps Tok → Option CommandForm
@@ -57,7 +64,7 @@ declare_datatypes_form ts = do
   _ ← guard (not (is_empty b.0))
   _ ← guard (are_data_decs b.0)
   _ ← guard (is_empty b.1)
-  Some (form.DeclareDatatypes a.0 b.0)
+  Some (form.Declaration (declaration.Datatypes (map sort_dec_of (each_tree a.0)) b.0))
 
 -- ( declare-fun symbol ( sort* ) sort )
 abbrev pub declare_fun_form : Sexps Tok → Option CommandForm
@@ -66,7 +73,7 @@ declare_fun_form ts = do
   b ← list_first a.1
   c ← any_first b.1
   _ ← guard (is_empty c.1)
-  Some (form.DeclareFun a.0 b.0 c.0)
+  Some (form.Declaration (declaration.Fun a.0 b.0 c.0))
 
 -- ( declare-sort symbol numeral )
 abbrev pub declare_sort_form : Sexps Tok → Option CommandForm
@@ -75,29 +82,19 @@ declare_sort_form ts = do
   b ← token_first a.1
   _ ← guard (is_numeral b.0)
   _ ← guard (is_empty b.1)
-  Some (form.DeclareSort a.0 b.0)
+  Some (form.Complete (kind.DeclareSort a.0 b.0))
 
--- ( define-fun symbol ( variable* ) sort term )
+-- ( define-fun fun_def )
 abbrev pub define_fun_form : Sexps Tok → Option CommandForm
 define_fun_form ts = do
-  a ← symbol_first ts
-  b ← list_first a.1
-  c ← any_first b.1
-  d ← any_first c.1
-  _ ← guard (are_named b.0)
-  _ ← guard (is_empty d.1)
-  Some (form.DefineFun a.0 b.0 c.0 d.0)
+  f ← fun_def_parts ts
+  Some (form.DefineFun f)
 
--- ( define-fun-rec symbol ( variable* ) sort term )
+-- ( define-fun-rec fun_def )
 abbrev pub define_fun_rec_form : Sexps Tok → Option CommandForm
 define_fun_rec_form ts = do
-  a ← symbol_first ts
-  b ← list_first a.1
-  c ← any_first b.1
-  d ← any_first c.1
-  _ ← guard (are_named b.0)
-  _ ← guard (is_empty d.1)
-  Some (form.DefineFunRec a.0 b.0 c.0 d.0)
+  f ← fun_def_parts ts
+  Some (form.DefineFunRec f)
 
 -- ( define-funs-rec ( fun_dec+ ) ( term+ ) ), with lists of equal lengths
 abbrev pub define_funs_rec_form : Sexps Tok → Option CommandForm
@@ -119,7 +116,7 @@ define_sort_form ts = do
   c ← any_first b.1
   _ ← guard (are_symbols b.0)
   _ ← guard (is_empty c.1)
-  Some (form.DefineSort a.0 b.0 c.0)
+  Some (form.Declaration (declaration.Sort a.0 (tokens_of b.0) c.0))
 
 -- ( echo string )
 abbrev pub echo_form : Sexps Tok → Option CommandForm
@@ -127,7 +124,7 @@ echo_form ts = do
   a ← token_first ts
   _ ← guard (is_string a.0)
   _ ← guard (is_empty a.1)
-  Some (form.Echo a.0)
+  Some (form.Complete (kind.Echo a.0))
 
 -- ( get-info keyword )
 abbrev pub get_info_form : Sexps Tok → Option CommandForm
@@ -135,7 +132,7 @@ get_info_form ts = do
   a ← token_first ts
   _ ← guard (is_keyword a.0)
   _ ← guard (is_empty a.1)
-  Some (form.GetInfo a.0)
+  Some (form.Complete (kind.GetInfo a.0))
 
 -- ( get-option keyword )
 abbrev pub get_option_form : Sexps Tok → Option CommandForm
@@ -143,7 +140,7 @@ get_option_form ts = do
   a ← token_first ts
   _ ← guard (is_keyword a.0)
   _ ← guard (is_empty a.1)
-  Some (form.GetOption a.0)
+  Some (form.Complete (kind.GetOption a.0))
 
 -- ( get-value ( term+ ) )
 abbrev pub get_value_form : Sexps Tok → Option CommandForm
@@ -159,7 +156,7 @@ pop_form ts = do
   a ← token_first ts
   _ ← guard (is_numeral a.0)
   _ ← guard (is_empty a.1)
-  Some (form.Pop a.0)
+  Some (form.Complete (kind.Pop a.0))
 
 -- ( push numeral )
 abbrev pub push_form : Sexps Tok → Option CommandForm
@@ -167,38 +164,38 @@ push_form ts = do
   a ← token_first ts
   _ ← guard (is_numeral a.0)
   _ ← guard (is_empty a.1)
-  Some (form.Push a.0)
+  Some (form.Complete (kind.Push a.0))
 
 -- ( set-info attribute )
 abbrev pub set_info_form : Sexps Tok → Option CommandForm
 set_info_form ts = do
   a ← attribute_parts ts
-  Some (form.SetInfo a.0 a.1)
+  Some (form.Complete (kind.SetInfo (attribute_of a.0 a.1)))
 
 -- ( set-logic symbol )
 abbrev pub set_logic_form : Sexps Tok → Option CommandForm
 set_logic_form ts = do
   a ← symbol_first ts
   _ ← guard (is_empty a.1)
-  Some (form.SetLogic a.0)
+  Some (form.Complete (kind.SetLogic a.0))
 
 -- ( set-option attribute ), where `:global-declarations` has a truth value
 abbrev pub set_option_form : Sexps Tok → Option CommandForm
 set_option_form ts = do
   a ← attribute_parts ts
   _ ← guard (option_fits a.0 a.1)
-  Some (form.SetOption a.0 a.1)
+  Some (form.Complete (kind.SetOption (attribute_of a.0 a.1)))
 
 -- a command with no parts
-abbrev pub plain_form : Sexps Tok → CommandForm → Option CommandForm
-plain_form ts f = do
+abbrev pub plain_form : Sexps Tok → RawCommandKind → Option CommandForm
+plain_form ts k = do
   _ ← guard (is_empty ts)
-  Some f
+  Some (form.Complete k)
 
 -- the form of a command after its word
 abbrev pub form_after : CommandWord → Sexps Tok → Option CommandForm
 form_after command.Assert ts = assert_form ts
-form_after command.CheckSat ts = plain_form ts form.CheckSat
+form_after command.CheckSat ts = plain_form ts kind.CheckSat
 form_after command.CheckSatAssuming ts = check_sat_assuming_form ts
 form_after command.DeclareConst ts = declare_const_form ts
 form_after command.DeclareDatatype ts = declare_datatype_form ts
@@ -210,20 +207,20 @@ form_after command.DefineFunRec ts = define_fun_rec_form ts
 form_after command.DefineFunsRec ts = define_funs_rec_form ts
 form_after command.DefineSort ts = define_sort_form ts
 form_after command.Echo ts = echo_form ts
-form_after command.Exit ts = plain_form ts form.Exit
-form_after command.GetAssertions ts = plain_form ts form.GetAssertions
-form_after command.GetAssignment ts = plain_form ts form.GetAssignment
+form_after command.Exit ts = plain_form ts kind.Exit
+form_after command.GetAssertions ts = plain_form ts kind.GetAssertions
+form_after command.GetAssignment ts = plain_form ts kind.GetAssignment
 form_after command.GetInfo ts = get_info_form ts
-form_after command.GetModel ts = plain_form ts form.GetModel
+form_after command.GetModel ts = plain_form ts kind.GetModel
 form_after command.GetOption ts = get_option_form ts
-form_after command.GetProof ts = plain_form ts form.GetProof
-form_after command.GetUnsatAssumptions ts = plain_form ts form.GetUnsatAssumptions
-form_after command.GetUnsatCore ts = plain_form ts form.GetUnsatCore
+form_after command.GetProof ts = plain_form ts kind.GetProof
+form_after command.GetUnsatAssumptions ts = plain_form ts kind.GetUnsatAssumptions
+form_after command.GetUnsatCore ts = plain_form ts kind.GetUnsatCore
 form_after command.GetValue ts = get_value_form ts
 form_after command.Pop ts = pop_form ts
 form_after command.Push ts = push_form ts
-form_after command.Reset ts = plain_form ts form.Reset
-form_after command.ResetAssertions ts = plain_form ts form.ResetAssertions
+form_after command.Reset ts = plain_form ts kind.Reset
+form_after command.ResetAssertions ts = plain_form ts kind.ResetAssertions
 form_after command.SetInfo ts = set_info_form ts
 form_after command.SetLogic ts = set_logic_form ts
 form_after command.SetOption ts = set_option_form ts

@@ -1,9 +1,8 @@
 -- The abstract syntax of commands (SMT-LIB 2.6, section 3.9). A number beside a part is the byte of the parenthesis that
 -- begins it.
-use Rattle.std.specs.Prelude.{ℕ, List, Option}
+use Rattle.std.specs.Prelude.{ℕ, List}
 use Rattle.lex_core.specs.declared.token.Tok.{Tok}
-use Rattle.sexp_core.specs.declared.parts.Part.{Part}
-use Rattle.term_grammar.specs.Syntax.{Sort, Sorts, SortedSymbol, Term, Terms}
+use Rattle.term_grammar.specs.Syntax.{Sort, Sorts, SortedSymbol, Term, Terms, Attribute}
 
 -- ( symbol numeral )
 pub record SortDec : Type 0 where
@@ -29,12 +28,19 @@ pub record FunDec : Type 0 where
   pub params : List SortedSymbol
   pub result : Sort
 
--- symbol | ( not symbol )
+-- symbol ( variable* ) sort term
+pub record FunDef : Type 0 where
+  pub name : Tok
+  pub params : List SortedSymbol
+  pub result : Sort
+  pub body : Term
+
+-- symbol | ( not symbol ). The token of `not` is kept: it is the function symbol of the literal read as a term.
 pub data Literal : Type 0 where
   positive : Tok → Literal
-  negative : ℕ → Tok → Literal
+  negative : ℕ → Tok → Tok → Literal
 
--- One case for each command. The value of an attribute is a tree.
+-- One case for each command.
 pub data Command : Type 0 where
   assert : Term → Command
   check_sat : Command
@@ -44,8 +50,8 @@ pub data Command : Type 0 where
   declare_datatypes : List SortDec → List DataDec → Command
   declare_fun : Tok → Sorts → Sort → Command
   declare_sort : Tok → Tok → Command
-  define_fun : Tok → List SortedSymbol → Sort → Term → Command
-  define_fun_rec : Tok → List SortedSymbol → Sort → Term → Command
+  define_fun : FunDef → Command
+  define_fun_rec : FunDef → Command
   define_funs_rec : List FunDec → Terms → Command
   define_sort : Tok → List Tok → Sort → Command
   echo : Tok → Command
@@ -63,6 +69,11 @@ pub data Command : Type 0 where
   push : Tok → Command
   reset : Command
   reset_assertions : Command
-  set_info : Tok → Option Part → Command
+  set_info : Attribute → Command
   set_logic : Tok → Command
-  set_option : Tok → Option Part → Command
+  set_option : Attribute → Command
+
+-- a command, and the byte where it begins
+pub record CommandAt : Type 0 where
+  pub at : ℕ
+  pub command : Command

@@ -1,13 +1,15 @@
 -- The form of the declarations and literals in commands: their parts, where any tree is a sort or a term.
-use Rattle.std.specs.Prelude.{Bool, true, false, not, ◌&&◌, ◌||◌, ◌==◌, Option, Some, None, is_some}
+use Rattle.std.specs.List.{list_all}
+use Rattle.std.specs.Prelude.{Bool, false, not, ◌&&◌, ◌||◌, ◌==◌, Option, Some, None, is_some}
 use Rattle.lex_core.specs.declared.token.Tok.{Tok}
-use Rattle.sexp_core.specs.Sexp.{Sexp, atom, list, Sexps, nil, cons}
+use Rattle.sexp_core.specs.Sexp.{Sexp, atom, list, Sexps}
 use Rattle.sexp_core.specs.declared.parts.Part.{Part}
-use Rattle.sexp_core.specs.declared.parts.Part.TheVariants as part
 use Rattle.term_grammar.specs.declared.words.TheConstants.{PAR, NOT, TRUE, FALSE, GLOBAL_DECLARATIONS}
 use Rattle.term_grammar.specs.Words.{is_symbol, is_numeral, is_reserved, is_keyword, is_key}
 use Rattle.term_grammar.specs.FirstParts.{◌>>=◌, any_first, token_first, symbol_first, list_first, is_empty, guard}
 use Rattle.term_grammar.specs.TermForms.{are_symbols, are_named, value_first}
+use Rattle.cmd_grammar.specs.declared.declaration_form.FunDefParts.{FunDefParts}
+use Rattle.cmd_grammar.specs.TreeLists.{each_tree}
 
 -- symbol numeral
 abbrev pub sort_dec_parts : Sexps Tok → Option (Tok × Tok)
@@ -18,11 +20,13 @@ sort_dec_parts ts = do
   _ ← guard (is_empty a.1)
   Some (n.0, a.0)
 
--- each of some trees is ( symbol numeral )
+-- ( symbol numeral )
+abbrev pub is_sort_dec : Sexp Tok → Bool
+is_sort_dec (atom t) = false
+is_sort_dec (list at ts) = is_some (sort_dec_parts ts)
+
 abbrev pub are_sort_decs : Sexps Tok → Bool
-are_sort_decs nil = true
-are_sort_decs (cons (atom t) ts) = false
-are_sort_decs (cons (list at us) ts) = is_some (sort_dec_parts us) && are_sort_decs ts
+are_sort_decs ts = list_all is_sort_dec (each_tree ts)
 
 -- symbol selector*
 abbrev pub constructor_dec_parts : Sexps Tok → Option (Tok × Sexps Tok)
@@ -31,11 +35,13 @@ constructor_dec_parts ts = do
   _ ← guard (are_named n.1)
   Some (n.0, n.1)
 
--- each of some trees is ( symbol selector* )
+-- ( symbol selector* )
+abbrev pub is_constructor_dec : Sexp Tok → Bool
+is_constructor_dec (atom t) = false
+is_constructor_dec (list at ts) = is_some (constructor_dec_parts ts)
+
 abbrev pub are_constructor_decs : Sexps Tok → Bool
-are_constructor_decs nil = true
-are_constructor_decs (cons (atom t) ts) = false
-are_constructor_decs (cons (list at us) ts) = is_some (constructor_dec_parts us) && are_constructor_decs ts
+are_constructor_decs ts = list_all is_constructor_dec (each_tree ts)
 
 -- par ( symbol+ ) ( con_dec+ )
 abbrev pub parametric_parts : Sexps Tok → Option (Sexps Tok × Sexps Tok)
@@ -57,9 +63,7 @@ is_data_dec (atom t) = false
 is_data_dec (list at ts) = is_some (parametric_parts ts) || (not (is_empty ts) && are_constructor_decs ts)
 
 abbrev pub are_data_decs : Sexps Tok → Bool
-are_data_decs nil = true
-are_data_decs (cons (atom t) ts) = false
-are_data_decs (cons (list at us) ts) = is_data_dec (list at us) && are_data_decs ts
+are_data_decs ts = list_all is_data_dec (each_tree ts)
 
 -- symbol ( variable* ) sort
 abbrev pub fun_dec_parts : Sexps Tok → Option (Tok × Sexps Tok × Part)
@@ -71,20 +75,33 @@ fun_dec_parts ts = do
   _ ← guard (is_empty s.1)
   Some (n.0, v.0, s.0)
 
--- each of some trees is ( symbol ( variable* ) sort )
+-- ( symbol ( variable* ) sort )
+abbrev pub is_fun_dec : Sexp Tok → Bool
+is_fun_dec (atom t) = false
+is_fun_dec (list at ts) = is_some (fun_dec_parts ts)
+
 abbrev pub are_fun_decs : Sexps Tok → Bool
-are_fun_decs nil = true
-are_fun_decs (cons (atom t) ts) = false
-are_fun_decs (cons (list at us) ts) = is_some (fun_dec_parts us) && are_fun_decs ts
+are_fun_decs ts = list_all is_fun_dec (each_tree ts)
+
+-- symbol ( variable* ) sort term
+abbrev pub fun_def_parts : Sexps Tok → Option FunDefParts
+fun_def_parts ts = do
+  a ← symbol_first ts
+  b ← list_first a.1
+  c ← any_first b.1
+  d ← any_first c.1
+  _ ← guard (are_named b.0)
+  _ ← guard (is_empty d.1)
+  Some (record { name = a.0; params = b.0; result = c.0; body = d.0 })
 
 -- not symbol
-abbrev pub negated_parts : Sexps Tok → Option Tok
+abbrev pub negated_parts : Sexps Tok → Option (Tok × Tok)
 negated_parts ts = do
   w ← symbol_first ts
   _ ← guard (w.0.name == NOT)
   s ← symbol_first w.1
   _ ← guard (is_empty s.1)
-  Some s.0
+  Some (w.0, s.0)
 
 -- symbol | ( not symbol )
 abbrev pub is_literal : Sexp Tok → Bool
@@ -92,12 +109,10 @@ is_literal (atom t) = is_symbol t
 is_literal (list at ts) = is_some (negated_parts ts)
 
 abbrev pub are_literals : Sexps Tok → Bool
-are_literals nil = true
-are_literals (cons (atom t) ts) = is_literal (atom t) && are_literals ts
-are_literals (cons (list at us) ts) = is_literal (list at us) && are_literals ts
+are_literals ts = list_all is_literal (each_tree ts)
 
 -- keyword | keyword value
-abbrev pub attribute_parts : Sexps Tok → Option (Tok × Option Part)
+abbrev pub attribute_parts : Sexps Tok → Option (Tok × Option (Sexp Tok))
 attribute_parts ts = do
   k ← token_first ts
   _ ← guard (is_keyword k.0)
@@ -105,11 +120,11 @@ attribute_parts ts = do
   Some (k.0, (value_first k.1).0)
 
 -- the symbol `true` or the symbol `false`
-abbrev pub is_truth : Option Part → Bool
+abbrev pub is_truth : Option (Sexp Tok) → Bool
 is_truth None = false
-is_truth (Some (part.Atom t)) = is_symbol t && (t.name == TRUE || t.name == FALSE)
-is_truth (Some (part.List at ts)) = false
+is_truth (Some (atom t)) = is_symbol t && (t.name == TRUE || t.name == FALSE)
+is_truth (Some (list at ts)) = false
 
 -- what a command sets `:global-declarations` to is a truth value
-abbrev pub option_fits : Tok → Option Part → Bool
+abbrev pub option_fits : Tok → Option (Sexp Tok) → Bool
 option_fits k v = not (is_key GLOBAL_DECLARATIONS k) || is_truth v

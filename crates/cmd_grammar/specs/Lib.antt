@@ -1,7 +1,11 @@
+pub mod TreeLists
+pub mod Commands
 pub mod CommandWords
 pub mod DeclarationForms
+pub mod DeclarationReads
+pub mod DeclarationViews
 pub mod CommandForms
-pub mod Commands
+pub mod CommandViews
 pub mod CommandReads
 pub mod CommandAnswers
 pub mod WordNumbers

@@ -1,13 +1,20 @@
 //! Commands.
 ghost use Rattle.std.specs.Prelude.{◌≡◌};
-ghost use Rattle.term_grammar.specs.Reads.{byte_of};
-ghost use Rattle.cmd_grammar.specs.CommandAnswers.{Answers};
+ghost use Rattle.term_grammar.specs.Reads.{made_of};
+ghost use Rattle.cmd_grammar.specs.CommandViews.{command_from};
+ghost use Rattle.cmd_grammar.specs.CommandReads.{command_by, declaration_by, read_command as reading};
+ghost use Rattle.cmd_grammar.specs.CommandAnswers.{Answers, kind_read};
 
-use crate::judge_command::judge_command;
+use crate::command_form::{CommandForm, DeclarationForm, command_form};
+use crate::command_kind::RawCommandKind;
+use crate::datatype_dec::{read_data_dec, read_data_decs};
+use crate::fun_dec::{read_fun_decs, read_fun_def};
 use lex_core::{Names, Place};
 use sexp_core::{Part, Tree, Trees};
+use sig_table::Code;
 use std::alloc::Global;
 use std::marker::Model;
+use term_grammar::{read_sort, read_sorts, read_term, read_terms};
 use thiserror::Error;
 
 /// Why a tree reads as no command.
@@ -31,16 +38,17 @@ pub struct RawCommand<'t> {
 
 impl<'t> Model for RawCommand<'t> {
     ghost use Rattle.std.specs.Prelude.{IsOk};
-    ghost use Rattle.lex_core.specs.declared.token.Tok.{Tok};
-    ghost use Rattle.sexp_core.specs.Sexp.{Sexp};
-    ghost use Rattle.sexp_core.specs.Items.{sexp_code};
+    ghost use Rattle.std.specs.Coded.{codes};
+    ghost use Rattle.term_grammar.specs.Codes.{attribute_code, sort_code, sorted_symbols_code, sorts_code, term_code, terms_code, tokens_code};
+    ghost use Rattle.cmd_grammar.specs.Commands.{CommandAt};
     ghost use Rattle.cmd_grammar.specs.CommandReads.{read_command};
+    ghost use Rattle.cmd_grammar.specs.CommandAnswers.{command_at};
 
-    ghost Value = { Sexp Tok };
+    ghost Value = { CommandAt };
 
-    ghost coded = { sexp_code };
+    ghost coded = { Prim.hlevel (codes, attribute_code, sort_code, sorted_symbols_code, sorts_code, term_code, terms_code, tokens_code) };
 
-    ghost view = { λ r. r.tree.now };
+    ghost view = { λ r. command_at r.tree.now };
 
     ghost invariant = { λ r. IsOk (read_command r.tree.now) };
 }
@@ -54,20 +62,100 @@ pub fn read_command<'t>(
 ) -> Result<RawCommand<'t>, GrError>
     ensures { Answers tree.now result }
 {
+    match read_kind(tree) {
+        Ok(_) => Ok(RawCommand { tree }),
+        Err(place) => Err(GrError::Fault(place)),
+    }
+}
+
+// The production of the command that a tree is, or why it is none.
+#[tactic(auto, unfolding(crate::specs::CommandReads::read_command))]
+fn read_kind<'t>(tree: &'t Tree) -> Result<RawCommandKind<'t>, Place>
+    ensures { kind_read result ≡ reading tree.now }
+{
     let trees = Trees::of(tree);
     let Some((part, _)) = trees.split() else {
         unreachable!();
     };
-    match judge_command(&part) {
-        Ok(()) => Ok(RawCommand { tree }),
-        Err(place) => Err(GrError::Fault(place)),
+    let form = command_form(&part)?;
+    match read_form(form) {
+        Ok(kind) => Ok(kind),
+        Err(at) => Err(Place {
+            code: Code::WrongTermForm,
+            at,
+        }),
+    }
+}
+
+// Reads the sorts and terms of a form. The error is the first byte of the first tree, in pre-order, that has no shape.
+fn read_form<'t>(form: CommandForm<'t>) -> Result<RawCommandKind<'t>, u32>
+    ensures { made_of command_from result ≡ command_by form.entry }
+{
+    match form {
+        CommandForm::Complete(kind) => Ok(kind),
+        CommandForm::Declaration(form) => read_declaration(form),
+        CommandForm::Assert { term } => {
+            let term = read_term(term)?;
+            Ok(RawCommandKind::Assert(term))
+        }
+        CommandForm::DefineFun(parts) => {
+            let definition = read_fun_def(parts)?;
+            Ok(RawCommandKind::DefineFun(definition))
+        }
+        CommandForm::DefineFunRec(parts) => {
+            let definition = read_fun_def(parts)?;
+            Ok(RawCommandKind::DefineFunRec(definition))
+        }
+        CommandForm::DefineFunsRec {
+            declarations,
+            bodies,
+        } => {
+            let declarations = read_fun_decs(declarations)?;
+            let bodies = read_terms(bodies)?;
+            Ok(RawCommandKind::DefineFunsRec {
+                declarations,
+                bodies,
+            })
+        }
+        CommandForm::GetValue { terms } => {
+            let terms = read_terms(terms)?;
+            Ok(RawCommandKind::GetValue(terms))
+        }
+    }
+}
+
+fn read_declaration<'t>(form: DeclarationForm<'t>) -> Result<RawCommandKind<'t>, u32>
+    ensures { made_of command_from result ≡ declaration_by form.entry }
+{
+    match form {
+        DeclarationForm::Const { name, sort } => {
+            let sort = read_sort(sort)?;
+            Ok(RawCommandKind::DeclareConst { name, sort })
+        }
+        DeclarationForm::Datatype { name, declaration } => {
+            let declaration = read_data_dec(declaration)?;
+            Ok(RawCommandKind::DeclareDatatype { name, declaration })
+        }
+        DeclarationForm::Datatypes { sorts, datatypes } => {
+            let datatypes = read_data_decs(datatypes)?;
+            Ok(RawCommandKind::DeclareDatatypes { sorts, datatypes })
+        }
+        DeclarationForm::Fun { name, args, result } => {
+            let args = read_sorts(args)?;
+            let result = read_sort(result)?;
+            Ok(RawCommandKind::DeclareFun { name, args, result })
+        }
+        DeclarationForm::Sort { name, params, sort } => {
+            let sort = read_sort(sort)?;
+            Ok(RawCommandKind::DefineSort { name, params, sort })
+        }
     }
 }
 
 impl<'t> RawCommand<'t> {
     /// The first byte of the command, from 0.
     pub fn at(&self) -> u32
-        ensures { result ≡ byte_of self.now }
+        ensures { result ≡ self.now.at }
     {
         let trees = Trees::of(self.tree);
         let Some((part, _)) = trees.split() else {
@@ -76,6 +164,16 @@ impl<'t> RawCommand<'t> {
         match part {
             Part::Atom(tok) => tok.at,
             Part::List { at, .. } => at,
+        }
+    }
+
+    /// The command, by its production. It walks over the command's sorts and terms.
+    pub fn kind(&self) -> RawCommandKind<'t>
+        ensures { self.now.command ≡ command_from result }
+    {
+        match read_kind(self.tree) {
+            Ok(kind) => kind,
+            Err(_) => unreachable!(),
         }
     }
 }

@@ -3,105 +3,65 @@ ghost use Rattle.std.specs.Prelude.{◌≡◌};
 ghost use Rattle.sexp_core.specs.Parts.{whole};
 ghost use Rattle.cmd_grammar.specs.CommandForms as definition;
 
+use crate::command_kind::RawCommandKind;
 use crate::command_word::{CommandWord, command_word};
 use crate::declaration_form::{
-    are_data_decs, are_fun_decs, are_literals, are_sort_decs, attribute_parts, is_data_dec,
-    option_fits,
+    FunDefParts, are_data_decs, are_fun_decs, are_literals, are_sort_decs, attribute_parts,
+    fun_def_parts, is_data_dec, option_fits,
 };
+use crate::literal::RawLiterals;
+use crate::sort_dec::RawSortDecs;
 use lex_core::{Place, Tok};
 use sexp_core::{Part, Trees};
 use sig_table::Code;
-use term_grammar::{any_first, are_named, are_symbols, guard, is_empty, is_keyword, is_numeral, is_string, list_first, symbol_first, token_first};
+use term_grammar::{
+    RawAttribute, RawSymbols, any_first, are_symbols, guard, is_empty, is_keyword, is_numeral,
+    is_string, list_first, symbol_first, token_first,
+};
 
-/// A command, by its form.
+/// A command, by its form. A command without sorts and terms is complete.
 #[derive(Drop)]
 pub(crate) enum CommandForm<'t> {
+    Complete(RawCommandKind<'t>),
+    Declaration(DeclarationForm<'t>),
     Assert {
         term: Part<'t>,
     },
-    CheckSat,
-    CheckSatAssuming {
-        literals: Trees<'t>,
+    DefineFun(FunDefParts<'t>),
+    DefineFunRec(FunDefParts<'t>),
+    DefineFunsRec {
+        declarations: Trees<'t>,
+        bodies: Trees<'t>,
     },
-    DeclareConst {
+    GetValue {
+        terms: Trees<'t>,
+    },
+}
+
+/// A declaration with sorts, or the definition of a sort, by its form.
+#[derive(Drop)]
+pub(crate) enum DeclarationForm<'t> {
+    Const {
         name: Tok,
         sort: Part<'t>,
     },
-    DeclareDatatype {
+    Datatype {
         name: Tok,
         declaration: Part<'t>,
     },
-    DeclareDatatypes {
-        sorts: Trees<'t>,
+    Datatypes {
+        sorts: RawSortDecs<'t>,
         datatypes: Trees<'t>,
     },
-    DeclareFun {
+    Fun {
         name: Tok,
         args: Trees<'t>,
         result: Part<'t>,
     },
-    DeclareSort {
+    Sort {
         name: Tok,
-        arity: Tok,
-    },
-    DefineFun {
-        name: Tok,
-        params: Trees<'t>,
-        result: Part<'t>,
-        body: Part<'t>,
-    },
-    DefineFunRec {
-        name: Tok,
-        params: Trees<'t>,
-        result: Part<'t>,
-        body: Part<'t>,
-    },
-    DefineFunsRec {
-        functions: Trees<'t>,
-        bodies: Trees<'t>,
-    },
-    DefineSort {
-        name: Tok,
-        params: Trees<'t>,
+        params: RawSymbols<'t>,
         sort: Part<'t>,
-    },
-    Echo {
-        text: Tok,
-    },
-    Exit,
-    GetAssertions,
-    GetAssignment,
-    GetInfo {
-        key: Tok,
-    },
-    GetModel,
-    GetOption {
-        key: Tok,
-    },
-    GetProof,
-    GetUnsatAssumptions,
-    GetUnsatCore,
-    GetValue {
-        terms: Trees<'t>,
-    },
-    Pop {
-        count: Tok,
-    },
-    Push {
-        count: Tok,
-    },
-    Reset,
-    ResetAssertions,
-    SetInfo {
-        key: Tok,
-        value: Option<Part<'t>>,
-    },
-    SetLogic {
-        name: Tok,
-    },
-    SetOption {
-        key: Tok,
-        value: Option<Part<'t>>,
     },
 }
 
@@ -119,9 +79,12 @@ fn check_sat_assuming<'t>(parts: &Trees<'t>) -> Option<CommandForm<'t>>
     ensures { result ≡ definition.check_sat_assuming_form parts.now }
 {
     let (literals, rest) = list_first(parts)?;
-    guard(are_literals(&literals))?;
+    if !are_literals(&literals) {
+        return None;
+    }
     guard(is_empty(&rest))?;
-    Some(CommandForm::CheckSatAssuming { literals })
+    let literals = RawLiterals { trees: literals };
+    Some(CommandForm::Complete(RawCommandKind::CheckSatAssuming(literals)))
 }
 
 // ( declare-const symbol sort )
@@ -131,7 +94,7 @@ fn declare_const<'t>(parts: &Trees<'t>) -> Option<CommandForm<'t>>
     let (name, rest) = symbol_first(parts)?;
     let (sort, rest) = any_first(&rest)?;
     guard(is_empty(&rest))?;
-    Some(CommandForm::DeclareConst { name, sort })
+    Some(CommandForm::Declaration(DeclarationForm::Const { name, sort }))
 }
 
 // ( declare-datatype symbol data_dec )
@@ -142,7 +105,7 @@ fn declare_datatype<'t>(parts: &Trees<'t>) -> Option<CommandForm<'t>>
     let (declaration, rest) = any_first(&rest)?;
     guard(is_data_dec(&declaration))?;
     guard(is_empty(&rest))?;
-    Some(CommandForm::DeclareDatatype { name, declaration })
+    Some(CommandForm::Declaration(DeclarationForm::Datatype { name, declaration }))
 }
 
 // ( declare-datatypes ( sort_dec+ ) ( data_dec+ ) )
@@ -152,11 +115,14 @@ fn declare_datatypes<'t>(parts: &Trees<'t>) -> Option<CommandForm<'t>>
     let (sorts, rest) = list_first(parts)?;
     let (datatypes, rest) = list_first(&rest)?;
     guard(!is_empty(&sorts))?;
-    guard(are_sort_decs(&sorts))?;
+    if !are_sort_decs(&sorts) {
+        return None;
+    }
     guard(!is_empty(&datatypes))?;
     guard(are_data_decs(&datatypes))?;
     guard(is_empty(&rest))?;
-    Some(CommandForm::DeclareDatatypes { sorts, datatypes })
+    let sorts = RawSortDecs { trees: sorts };
+    Some(CommandForm::Declaration(DeclarationForm::Datatypes { sorts, datatypes }))
 }
 
 // ( declare-fun symbol ( sort* ) sort )
@@ -167,7 +133,7 @@ fn declare_fun<'t>(parts: &Trees<'t>) -> Option<CommandForm<'t>>
     let (args, rest) = list_first(&rest)?;
     let (result, rest) = any_first(&rest)?;
     guard(is_empty(&rest))?;
-    Some(CommandForm::DeclareFun { name, args, result })
+    Some(CommandForm::Declaration(DeclarationForm::Fun { name, args, result }))
 }
 
 // ( declare-sort symbol numeral )
@@ -178,57 +144,40 @@ fn declare_sort<'t>(parts: &Trees<'t>) -> Option<CommandForm<'t>>
     let (arity, rest) = token_first(&rest)?;
     guard(is_numeral(&arity))?;
     guard(is_empty(&rest))?;
-    Some(CommandForm::DeclareSort { name, arity })
+    Some(CommandForm::Complete(RawCommandKind::DeclareSort { name, arity }))
 }
 
-// ( define-fun symbol ( variable* ) sort term )
+// ( define-fun fun_def )
 fn define_fun<'t>(parts: &Trees<'t>) -> Option<CommandForm<'t>>
     ensures { result ≡ definition.define_fun_form parts.now }
 {
-    let (name, rest) = symbol_first(parts)?;
-    let (params, rest) = list_first(&rest)?;
-    let (result, rest) = any_first(&rest)?;
-    let (body, rest) = any_first(&rest)?;
-    guard(are_named(&params))?;
-    guard(is_empty(&rest))?;
-    Some(CommandForm::DefineFun {
-        name,
-        params,
-        result,
-        body,
-    })
+    let parts = fun_def_parts(parts)?;
+    Some(CommandForm::DefineFun(parts))
 }
 
-// ( define-fun-rec symbol ( variable* ) sort term )
+// ( define-fun-rec fun_def )
 fn define_fun_rec<'t>(parts: &Trees<'t>) -> Option<CommandForm<'t>>
     ensures { result ≡ definition.define_fun_rec_form parts.now }
 {
-    let (name, rest) = symbol_first(parts)?;
-    let (params, rest) = list_first(&rest)?;
-    let (result, rest) = any_first(&rest)?;
-    let (body, rest) = any_first(&rest)?;
-    guard(are_named(&params))?;
-    guard(is_empty(&rest))?;
-    Some(CommandForm::DefineFunRec {
-        name,
-        params,
-        result,
-        body,
-    })
+    let parts = fun_def_parts(parts)?;
+    Some(CommandForm::DefineFunRec(parts))
 }
 
 // ( define-funs-rec ( fun_dec+ ) ( term+ ) ), with lists of equal lengths
 fn define_funs_rec<'t>(parts: &Trees<'t>) -> Option<CommandForm<'t>>
     ensures { result ≡ definition.define_funs_rec_form parts.now }
 {
-    let (functions, rest) = list_first(parts)?;
+    let (declarations, rest) = list_first(parts)?;
     let (bodies, rest) = list_first(&rest)?;
-    guard(!is_empty(&functions))?;
-    guard(are_fun_decs(&functions))?;
+    guard(!is_empty(&declarations))?;
+    guard(are_fun_decs(&declarations))?;
     guard(!is_empty(&bodies))?;
     guard(is_empty(&rest))?;
-    guard(functions.len() == bodies.len())?;
-    Some(CommandForm::DefineFunsRec { functions, bodies })
+    guard(declarations.len() == bodies.len())?;
+    Some(CommandForm::DefineFunsRec {
+        declarations,
+        bodies,
+    })
 }
 
 // ( define-sort symbol ( symbol* ) sort )
@@ -238,9 +187,12 @@ fn define_sort<'t>(parts: &Trees<'t>) -> Option<CommandForm<'t>>
     let (name, rest) = symbol_first(parts)?;
     let (params, rest) = list_first(&rest)?;
     let (sort, rest) = any_first(&rest)?;
-    guard(are_symbols(&params))?;
+    if !are_symbols(&params) {
+        return None;
+    }
     guard(is_empty(&rest))?;
-    Some(CommandForm::DefineSort { name, params, sort })
+    let params = RawSymbols::of(params);
+    Some(CommandForm::Declaration(DeclarationForm::Sort { name, params, sort }))
 }
 
 // ( echo string )
@@ -250,7 +202,7 @@ fn echo<'t>(parts: &Trees<'t>) -> Option<CommandForm<'t>>
     let (text, rest) = token_first(parts)?;
     guard(is_string(&text))?;
     guard(is_empty(&rest))?;
-    Some(CommandForm::Echo { text })
+    Some(CommandForm::Complete(RawCommandKind::Echo(text)))
 }
 
 // ( get-info keyword )
@@ -260,7 +212,7 @@ fn get_info<'t>(parts: &Trees<'t>) -> Option<CommandForm<'t>>
     let (key, rest) = token_first(parts)?;
     guard(is_keyword(&key))?;
     guard(is_empty(&rest))?;
-    Some(CommandForm::GetInfo { key })
+    Some(CommandForm::Complete(RawCommandKind::GetInfo(key)))
 }
 
 // ( get-option keyword )
@@ -270,7 +222,7 @@ fn get_option<'t>(parts: &Trees<'t>) -> Option<CommandForm<'t>>
     let (key, rest) = token_first(parts)?;
     guard(is_keyword(&key))?;
     guard(is_empty(&rest))?;
-    Some(CommandForm::GetOption { key })
+    Some(CommandForm::Complete(RawCommandKind::GetOption(key)))
 }
 
 // ( get-value ( term+ ) )
@@ -290,7 +242,7 @@ fn pop<'t>(parts: &Trees<'t>) -> Option<CommandForm<'t>>
     let (count, rest) = token_first(parts)?;
     guard(is_numeral(&count))?;
     guard(is_empty(&rest))?;
-    Some(CommandForm::Pop { count })
+    Some(CommandForm::Complete(RawCommandKind::Pop(count)))
 }
 
 // ( push numeral )
@@ -300,7 +252,7 @@ fn push<'t>(parts: &Trees<'t>) -> Option<CommandForm<'t>>
     let (count, rest) = token_first(parts)?;
     guard(is_numeral(&count))?;
     guard(is_empty(&rest))?;
-    Some(CommandForm::Push { count })
+    Some(CommandForm::Complete(RawCommandKind::Push(count)))
 }
 
 // ( set-info attribute )
@@ -308,7 +260,7 @@ fn set_info<'t>(parts: &Trees<'t>) -> Option<CommandForm<'t>>
     ensures { result ≡ definition.set_info_form parts.now }
 {
     let (key, value) = attribute_parts(parts)?;
-    Some(CommandForm::SetInfo { key, value })
+    Some(CommandForm::Complete(RawCommandKind::SetInfo(RawAttribute::new(key, value))))
 }
 
 // ( set-logic symbol )
@@ -317,7 +269,7 @@ fn set_logic<'t>(parts: &Trees<'t>) -> Option<CommandForm<'t>>
 {
     let (name, rest) = symbol_first(parts)?;
     guard(is_empty(&rest))?;
-    Some(CommandForm::SetLogic { name })
+    Some(CommandForm::Complete(RawCommandKind::SetLogic(name)))
 }
 
 // ( set-option attribute ), where `:global-declarations` has a truth value
@@ -326,13 +278,18 @@ fn set_option<'t>(parts: &Trees<'t>) -> Option<CommandForm<'t>>
 {
     let (key, value) = attribute_parts(parts)?;
     guard(option_fits(&key, &value))?;
-    Some(CommandForm::SetOption { key, value })
+    Some(CommandForm::Complete(RawCommandKind::SetOption(RawAttribute::new(key, value))))
 }
 
-fn plain<'t>(parts: &Trees<'t>, form: CommandForm<'t>) -> Option<CommandForm<'t>>
-    ensures { result ≡ definition.plain_form parts.now form.entry }
+// a command with no parts
+fn plain<'t>(parts: &Trees<'t>, kind: RawCommandKind<'t>) -> Option<CommandForm<'t>>
+    ensures { result ≡ definition.plain_form parts.now kind.entry }
 {
-    if is_empty(parts) { Some(form) } else { None }
+    if is_empty(parts) {
+        Some(CommandForm::Complete(kind))
+    } else {
+        None
+    }
 }
 
 fn form_after<'t>(word: CommandWord, parts: &Trees<'t>) -> Option<CommandForm<'t>>
@@ -340,7 +297,7 @@ fn form_after<'t>(word: CommandWord, parts: &Trees<'t>) -> Option<CommandForm<'t
 {
     match word {
         CommandWord::Assert => assert(parts),
-        CommandWord::CheckSat => plain(parts, CommandForm::CheckSat),
+        CommandWord::CheckSat => plain(parts, RawCommandKind::CheckSat),
         CommandWord::CheckSatAssuming => check_sat_assuming(parts),
         CommandWord::DeclareConst => declare_const(parts),
         CommandWord::DeclareDatatype => declare_datatype(parts),
@@ -352,20 +309,20 @@ fn form_after<'t>(word: CommandWord, parts: &Trees<'t>) -> Option<CommandForm<'t
         CommandWord::DefineFunsRec => define_funs_rec(parts),
         CommandWord::DefineSort => define_sort(parts),
         CommandWord::Echo => echo(parts),
-        CommandWord::Exit => plain(parts, CommandForm::Exit),
-        CommandWord::GetAssertions => plain(parts, CommandForm::GetAssertions),
-        CommandWord::GetAssignment => plain(parts, CommandForm::GetAssignment),
+        CommandWord::Exit => plain(parts, RawCommandKind::Exit),
+        CommandWord::GetAssertions => plain(parts, RawCommandKind::GetAssertions),
+        CommandWord::GetAssignment => plain(parts, RawCommandKind::GetAssignment),
         CommandWord::GetInfo => get_info(parts),
-        CommandWord::GetModel => plain(parts, CommandForm::GetModel),
+        CommandWord::GetModel => plain(parts, RawCommandKind::GetModel),
         CommandWord::GetOption => get_option(parts),
-        CommandWord::GetProof => plain(parts, CommandForm::GetProof),
-        CommandWord::GetUnsatAssumptions => plain(parts, CommandForm::GetUnsatAssumptions),
-        CommandWord::GetUnsatCore => plain(parts, CommandForm::GetUnsatCore),
+        CommandWord::GetProof => plain(parts, RawCommandKind::GetProof),
+        CommandWord::GetUnsatAssumptions => plain(parts, RawCommandKind::GetUnsatAssumptions),
+        CommandWord::GetUnsatCore => plain(parts, RawCommandKind::GetUnsatCore),
         CommandWord::GetValue => get_value(parts),
         CommandWord::Pop => pop(parts),
         CommandWord::Push => push(parts),
-        CommandWord::Reset => plain(parts, CommandForm::Reset),
-        CommandWord::ResetAssertions => plain(parts, CommandForm::ResetAssertions),
+        CommandWord::Reset => plain(parts, RawCommandKind::Reset),
+        CommandWord::ResetAssertions => plain(parts, RawCommandKind::ResetAssertions),
         CommandWord::SetInfo => set_info(parts),
         CommandWord::SetLogic => set_logic(parts),
         CommandWord::SetOption => set_option(parts),
