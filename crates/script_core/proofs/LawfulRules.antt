@@ -15,7 +15,7 @@ use Rattle.cmd_grammar.specs.Commands.{Command, assert, declare_const, echo, exi
 use Rattle.cmd_grammar.specs.CommandReads.{read_command}
 use Rattle.script_core.specs.Environment.{Environment}
 use Rattle.script_core.specs.Numbering.{numbered_sexp}
-use Rattle.script_core.specs.Rules.{has_rank, is_built, is_known, judge_all_built, judge_application, judge_built, judge_command, judge_form, judge_mode, judge_parts, judge_sort, judge_sorts, judge_term, judge_terms}
+use Rattle.script_core.specs.Rules.{has_rank, is_built, is_known, judge_all_built, judge_application, judge_built, judge_command, judge_form, judge_head, judge_mode, judge_parts, judge_sort, judge_sorts, judge_term, judge_terms}
 use Rattle.script_core.specs.Steps.{ListFault, ListSteps, answered, judge_list, judge_tree, with_names}
 
 lawful-answered : {A : Type 0} (r : Result A Place) → Lawful (answered r)
@@ -42,13 +42,15 @@ has_text (Some other) text = elim (cases_Bool (bytes_eq other text)) [
   | inr apart ↦ inr (λ e. let k : other ≡ text = cc in false≢true (sym apart ∙ (bytes_eq-Decides other text).1 k))
 ]
 
+lawful-head : (at : ℕ) (q : Qualified) → Lawful (judge_head at q)
+lawful-head at (unqualified i) = lawful-done _
+lawful-head at (qualified b i s) = lawful-refuse _ _
+
 mutual
   lawful-built : (t : Term) → Lawful (judge_built t)
   lawful-built (constant c) = lawful-done _
-  lawful-built (qualified_term (unqualified i)) = lawful-done _
-  lawful-built (qualified_term (qualified at i s)) = lawful-refuse _ _
-  lawful-built (application at (unqualified i) ts) = lawful-all_built ts
-  lawful-built (application at (qualified b i s) ts) = lawful-refuse _ _
+  lawful-built (qualified_term q) = lawful-head _ q
+  lawful-built (application at q ts) = lawful-then _ _ (lawful-head at q) (λ u. lawful-all_built ts)
   lawful-built (let_in at bs u) = lawful-refuse _ _
   lawful-built (for_all at vs u) = lawful-refuse _ _
   lawful-built (there_exists at vs u) = lawful-refuse _ _
@@ -65,8 +67,8 @@ lawful-form at c = lawful-check _ _ _ (test_decided (is_built c))
 
 lawful-mode : (env : Environment) (at : ℕ) (c : Command) → Lawful (judge_mode env at c)
 lawful-mode env at (set_logic n) = lawful-then _ _ (lawful-check _ _ _ (is_false env.logic)) (λ u. lawful-check _ _ _ (has_text (slice_get env.names n.name) (codes "QF_UF")))
-lawful-mode env at (set_option k v) = lawful-check _ _ _ (is_false _)
-lawful-mode env at (set_info k v) = lawful-done _
+lawful-mode env at (set_option a) = lawful-check _ _ _ (is_false _)
+lawful-mode env at (set_info a) = lawful-done _
 lawful-mode env at (get_option k) = lawful-done _
 lawful-mode env at (get_info k) = lawful-done _
 lawful-mode env at (echo t) = lawful-done _
@@ -105,13 +107,13 @@ mutual
   lawful-terms (with_term t ts) env = lawful-then _ _ (lawful-term t env) (λ u. lawful-terms ts env)
 
 lawful-parts : (env : Environment) (c : Command) → Lawful (judge_parts env c)
-lawful-parts env (assert t) = lawful-then _ _ (lawful-term t env) (λ u. lawful-done _)
-lawful-parts env (declare_const n s) = lawful-then _ _ (lawful-check _ _ _ (is_false (is_known env n.name))) (λ u. lawful-then _ _ (lawful-sort s env) (λ v. lawful-done _))
-lawful-parts env (set_logic n) = lawful-done _
+lawful-parts env (assert t) = lawful-term t env
+lawful-parts env (declare_const n s) = lawful-then _ _ (lawful-check _ _ _ (is_false (is_known env n.name))) (λ u. lawful-sort s env)
 lawful-parts env c = lawful-done _
 
 lawful-command : (env : Environment) (at : ℕ) (c : Command) → Lawful (judge_command env at c)
-lawful-command env at c = lawful-then _ _ (lawful-form at c) (λ u. lawful-then _ _ (lawful-mode env at c) (λ v. lawful-parts env c))
+lawful-command env at c =
+    lawful-then _ _ (lawful-form at c) (λ u. lawful-then _ _ (lawful-mode env at c) (λ v. lawful-then _ _ (lawful-parts env c) (λ w. lawful-done _)))
 
 pub lawful-tree : (env : Environment) (t : Sexp Tok) → Lawful (judge_tree env t)
 lawful-tree env t = lawful-then _ _ (lawful-answered (read_command t)) (λ c. lawful-then _ _ (lawful-command env _ c) (λ e. lawful-done _))

@@ -1,7 +1,7 @@
 -- The text of each code.
 use Rattle.std.specs.Prelude.{ℕ, List, codes}
 use Rattle.sig_table.specs.declared.code.Code.{Code}
-use Rattle.sig_table.specs.declared.code.Code.TheVariants.{UnexpectedByte, MalformedWord, UnclosedString, UnclosedQuotedSymbol, BackslashInQuotedSymbol, UnmatchedClose, AtomOutsideLists, UnclosedList, ListsTooDeep, TextTooDeep, SortTooLarge, NumberTooLarge, TooManyLevels, UnfoldingTooLarge, UnsupportedForm, UnknownCommand, WrongCommandForm, WrongTermForm, LogicNotSet, LogicAlreadySet, UnknownLogic, GlobalOptionTooLate, TooFewLevels, FunctionNameInUse, SortNameInUse, UnknownSort, WrongSortArity, RepeatedVariable, CapturedSortParameter, UnknownFunction, NoRank, AmbiguousConstructor, WrongQualifiedSort, LiteralWithoutSort, WrongTermSort, WrongIndex, AppliedVariable, WrongNamedTerm, WrongParameterCount, NotWellFounded, DatatypeNameInUse, MatchOnNonDatatype, UnknownConstructor, WrongPatternArity, UncoveredConstructor, WrongBranchSort, QuantifierOutsideLogic, SortOutsideLogic, FunctionOutsideLogic, NotLinear, NotDifference, ArrayOutsideLogic, DatatypeOutsideLogic, RecursionOutsideLogic, ReservedInfo, RecoveredTooLong, TooManyInstances, NotAnExport, UntranslatableSort, BooleanArgument, RecursiveDefinition, CheckUnderAssumptions, ChargeTooLarge}
+use Rattle.sig_table.specs.declared.code.Code.TheVariants.{UnexpectedByte, MalformedWord, UnclosedString, UnclosedQuotedSymbol, BackslashInQuotedSymbol, UnmatchedClose, AtomOutsideLists, UnclosedList, ListsTooDeep, TextTooDeep, SortTooLarge, NumberTooLarge, TooManyLevels, UnfoldingTooLarge, UnknownCommand, WrongCommandForm, WrongTermForm, LogicNotSet, LogicAlreadySet, UnknownLogic, GlobalOptionTooLate, TooFewLevels, FunctionNameInUse, SortNameInUse, UnknownSort, WrongSortArity, RepeatedVariable, CapturedSortParameter, UnknownFunction, NoRank, AmbiguousConstructor, WrongQualifiedSort, LiteralWithoutSort, WrongTermSort, WrongIndex, AppliedVariable, WrongNamedTerm, WrongParameterCount, NotWellFounded, DatatypeNameInUse, MatchOnNonDatatype, UnknownConstructor, WrongPatternArity, UncoveredConstructor, WrongBranchSort, QuantifierOutsideLogic, SortOutsideLogic, FunctionOutsideLogic, NotLinear, NotDifference, ArrayOutsideLogic, DatatypeOutsideLogic, RecursionOutsideLogic, ReservedInfo, RecoveredTooLong, TooManyInstances, NotAnExport, UntranslatableSort, BooleanArgument, RecursiveDefinition, CheckUnderAssumptions, ChargeTooLarge}
 
 -- the code as it is printed
 abbrev pub code_text : Code → List ℕ
@@ -19,7 +19,6 @@ code_text SortTooLarge = codes "LI-3"
 code_text NumberTooLarge = codes "LI-4"
 code_text TooManyLevels = codes "LI-5"
 code_text UnfoldingTooLarge = codes "LI-6"
-code_text UnsupportedForm = codes "GR-0"
 code_text UnknownCommand = codes "GR-1"
 code_text WrongCommandForm = codes "GR-2"
 code_text WrongTermForm = codes "GR-3"

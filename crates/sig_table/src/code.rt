@@ -33,8 +33,6 @@ pub enum Code {
     TooManyLevels,
     /// LI-6. The unfolding of a group of datatypes has more than 2,000 sorts.
     UnfoldingTooLarge,
-    /// GR-0. A form that is not built yet.
-    UnsupportedForm,
     /// GR-1. The list does not begin with the name of a command.
     UnknownCommand,
     /// GR-2. The form is not that of the command.
@@ -156,7 +154,6 @@ impl Code {
             Code::NumberTooLarge => b"LI-4",
             Code::TooManyLevels => b"LI-5",
             Code::UnfoldingTooLarge => b"LI-6",
-            Code::UnsupportedForm => b"GR-0",
             Code::UnknownCommand => b"GR-1",
             Code::WrongCommandForm => b"GR-2",
             Code::WrongTermForm => b"GR-3",
