@@ -199,8 +199,12 @@ breaks_command tokens c tok t refusal w table named is_list e fault number = rec
   reads = w.follows.reads;
   runs = w.follows.runs;
   number = number ∙ ap (λ (n : ℕ). n + 1) w.follows.counted;
-  fault = inr (sexp_of c.names t, is_list_told c.names t is_list, told_list c.names c.builder.0 tok t e,
-      judged_told w.known tokens c tok t (ill_sorted (place_of refusal)) w.follows w.names table named e fault);
+  fault = inr (
+    sexp_of c.names t,
+    is_list_told c.names t is_list,
+    told_list c.names c.builder.0 tok t e,
+    judged_told w.known tokens c tok t (ill_sorted (place_of refusal)) w.follows w.names table named e fault,
+  );
 }
 
 -- a table that grows

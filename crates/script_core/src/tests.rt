@@ -54,7 +54,7 @@ fn try_refused(
 
 #[test]
 fn refuses_texts_at_their_bytes(rt: HostRuntime) -> Result<(), Fail> {
-    let rows: [(&[u8], u32, u32, Code); 11] = [
+    let rows: [(&[u8], u32, u32, Code); 30] = [
         (b"a[", 1, 0, Code::AtomOutsideLists),
         (b"(echo \"a\"", 1, 0, Code::UnclosedList),
         (
@@ -73,18 +73,87 @@ fn refuses_texts_at_their_bytes(rt: HostRuntime) -> Result<(), Fail> {
             Code::UnmatchedClose,
         ),
         (b"(set-logic QF_UF) x", 2, 18, Code::AtomOutsideLists),
-        (b"(set-logic QF_UF)(assert q)", 2, 17, Code::UnknownFunction),
+        (b"(foo)", 1, 0, Code::UnknownCommand),
+        (b"(check-sat 1)", 1, 0, Code::WrongCommandForm),
+        (b"(assert (let () true))", 1, 8, Code::WrongTermForm),
+        (b"(push 1)", 1, 0, Code::WrongCommandForm),
         (
-            b"(set-logic QF_UF)(assert (or true true))",
+            b"(set-logic QF_UF)(assert (and true (let ((x true)) x)))",
+            2,
+            35,
+            Code::WrongTermForm,
+        ),
+        (b"(assert true)", 1, 0, Code::LogicNotSet),
+        (b"(get-model)", 1, 0, Code::LogicNotSet),
+        (
+            b"(set-logic QF_UF)(set-logic QF_UF)",
             2,
             17,
-            Code::UnsupportedForm,
+            Code::LogicAlreadySet,
+        ),
+        (b"(set-logic QF_XX)", 1, 0, Code::UnknownLogic),
+        (
+            b"(set-logic QF_UF)(set-option :global-declarations true)",
+            2,
+            17,
+            Code::GlobalOptionTooLate,
         ),
         (
-            b"(set-logic QF_UF)(declare-const |a b| Bool)",
+            b"(set-logic QF_UF)(declare-const p Bool)(declare-const p Bool)",
+            3,
+            54,
+            Code::FunctionNameInUse,
+        ),
+        (
+            b"(set-logic QF_UF)(declare-const and Bool)",
             2,
-            17,
-            Code::UnsupportedForm,
+            32,
+            Code::FunctionNameInUse,
+        ),
+        (
+            b"(set-logic QF_UF)(declare-const p (Foo Bar))",
+            2,
+            39,
+            Code::UnknownSort,
+        ),
+        (
+            b"(set-logic QF_UF)(declare-const p (Bool Bool))",
+            2,
+            34,
+            Code::UnknownSort,
+        ),
+        (
+            b"(set-logic QF_UF)(declare-const p (_ BitVec 8))",
+            2,
+            34,
+            Code::UnknownSort,
+        ),
+        (b"(set-logic QF_UF)(assert q)", 2, 25, Code::UnknownFunction),
+        (
+            b"(set-logic QF_UF)(assert (and u v))",
+            2,
+            30,
+            Code::UnknownFunction,
+        ),
+        (
+            b"(set-logic QF_UF)(assert ((_ is c) true))",
+            2,
+            25,
+            Code::UnknownFunction,
+        ),
+        (b"(set-logic QF_UF)(assert not)", 2, 25, Code::NoRank),
+        (b"(set-logic QF_UF)(assert (and true))", 2, 25, Code::NoRank),
+        (
+            b"(set-logic QF_UF)(assert (true false))",
+            2,
+            25,
+            Code::NoRank,
+        ),
+        (
+            b"(set-logic QF_UF)(assert (not 1))",
+            2,
+            30,
+            Code::LiteralWithoutSort,
         ),
     ];
     for (text, command, at, rule) in &rows {
@@ -95,7 +164,7 @@ fn refuses_texts_at_their_bytes(rt: HostRuntime) -> Result<(), Fail> {
 
 #[test]
 fn accepts_every_spelling_of_a_symbol(rt: HostRuntime) -> Result<(), Fail> {
-    let text: &[u8] = b"; note\n(set-logic |QF_UF|)(declare-const |p| Bool)(assert p);";
+    let text: &[u8] = b"; note\n(set-logic |QF_UF|)(declare-const |a b| |Bool|)(assert |a b|);";
     assert_eq!(rt; answer(&rt, rt.alloc(), text, 0)?, (Ok(()), 3));
     assert_eq!(rt; answer(&rt, rt.alloc(), b"; note", 0)?, (Ok(()), 0));
     Ok(())
@@ -150,4 +219,46 @@ fn takes_one_byte_at_a_time(rt: HostRuntime) -> Result<(), Fail> {
         refused(2, 32, Code::UnclosedQuotedSymbol)
     );
     Ok(())
+}
+
+#[test]
+fn accepts_the_commands_that_are_built(rt: HostRuntime) -> Result<(), Fail> {
+    let text: &[u8] = b"(set-option :global-declarations true)(set-info :a (b))(get-option :a)\
+        (get-info :name)(echo \"a\")(set-logic QF_UF)(declare-const p Bool)(declare-const or Bool)\
+        (assert (and p (not or) true))(check-sat)(get-assertions)(get-assignment)(get-model)\
+        (get-proof)(get-unsat-assumptions)(get-unsat-core)(set-option :a 1)";
+    assert_eq!(rt; answer(&rt, rt.alloc(), text, 0)?, (Ok(()), 17));
+    Ok(())
+}
+
+// An accepted `exit` ends the script, wherever the text is cut.
+#[test]
+fn ends_at_an_exit(rt: HostRuntime) -> Result<(), Fail> {
+    let text: &[u8] = b"(exit)garbage [";
+    for first in 0..15 {
+        assert_eq!(rt; answer_of_two(&rt, rt.alloc(), text, first)?, (Ok(()), 1));
+    }
+    Ok(())
+}
+
+// What a session answers that is fed the text in two chunks, the first of so many bytes, where an `exit` may end it.
+fn answer_of_two(
+    rt: &impl Abort,
+    alloc: Global,
+    text: &[u8],
+    first: usize,
+) -> Result<(Result<(), Stop>, u32), Fail> {
+    assert!(rt; first <= text.len());
+    assert!(rt; text.len() < 5000);
+    let (front, back) = text.split_at(first);
+    let mut session = Session::new(alloc)?;
+    assert!(rt; session.taken() == 0);
+    if let Err(stop) = session.feed(front) {
+        return Ok((Err(stop), session.count()));
+    }
+    assert!(rt; session.taken() < 5000);
+    if let Err(stop) = session.feed(back) {
+        return Ok((Err(stop), session.count()));
+    }
+    Ok((session.finish(), session.count()))
 }
