@@ -1,2 +1,5 @@
+pub mod DoBlocks
 pub mod EachTree
+pub mod Fields
+pub mod LiteralTerms
 pub mod ReadAll
