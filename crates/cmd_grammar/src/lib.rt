@@ -24,4 +24,6 @@ pub use literal::{RawLiteral, RawLiteralKind, RawLiterals};
 pub use sort_dec::{RawSortDec, RawSortDecs};
 
 #[cfg(test)]
+mod kind_tests;
+#[cfg(test)]
 mod tests;
