@@ -1,5 +1,5 @@
 -- The fields of a constructor as variables.
-use Rattle.std.proofs.Common.{◌≡◌, ℕ, zero, suc, List, [], ◌∷◌, length, slice_get, Option, Some, None, option_map, refl, ap, sym, ◌∙◌}
+use Rattle.std.proofs.Common.{◌≡◌, ℕ, zero, suc, List, [], ◌∷◌, length, slice_get, Option, option_map, refl, ap, sym, ◌∙◌}
 use Rattle.term_grammar.specs.declared.binder.RawVariable.{RawVariable}
 use Rattle.term_grammar.specs.Syntax.{SortedSymbol}
 use Rattle.term_grammar.specs.TermViews.{each_variable}

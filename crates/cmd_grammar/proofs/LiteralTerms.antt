@@ -1,5 +1,5 @@
 -- A literal reads as a term.
-use Rattle.std.proofs.Common.{◌≡◌, ℕ, Bool, true, false, ◌==◌, Some, None, Result, Ok, Err, IsTrue, IsOk, refl, ap, sym, ◌∙◌}
+use Rattle.std.proofs.Common.{◌≡◌, ℕ, false, ◌==◌, Some, Ok, IsTrue, refl, ap, sym, ◌∙◌}
 use Rattle.std.proofs.lemmas.Option.{option_and_then_some}
 use Rattle.lex_core.specs.declared.token.TokKind.{TokKind}
 use Rattle.lex_core.specs.declared.token.TokKind.TheVariants as kind
