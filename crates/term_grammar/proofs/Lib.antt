@@ -8,3 +8,7 @@ pub mod TermsSeen
 pub mod Bytes
 pub mod QualifiedSeen
 pub mod Lengths
+pub mod TokenKinds
+pub mod PartsFound
+pub mod GrammarComplete
+pub mod GrammarSound
