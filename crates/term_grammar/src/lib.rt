@@ -23,7 +23,7 @@ pub use binder::{RawBinding, RawBindings, RawVariable, RawVariables, read_variab
 pub use form::{SortForm, applied_parts, are_indices, indexed_parts, is_identifier, sort_form};
 pub use identifier::{RawIdentifier, RawIdentifierKind, RawIndices};
 pub use judge::{judge_sort, judge_sorted, judge_sorts, judge_term, judge_terms};
-pub use laws::word_laws;
+pub use laws::{grammar_laws, word_laws};
 pub use note::{RawNote, RawNoteKind, RawNotes};
 pub use parts::{any_first, guard, is_empty, list_first, symbol_first, token_first};
 pub use pattern::{RawCase, RawCases, RawPattern, RawPatternKind, RawSymbols};
