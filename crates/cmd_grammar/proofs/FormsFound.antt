@@ -19,7 +19,8 @@ use Rattle.cmd_grammar.specs.declared.command_form.DeclarationForm.{DeclarationF
 use Rattle.cmd_grammar.specs.declared.command_form.DeclarationForm.TheVariants as declaration
 use Rattle.cmd_grammar.specs.DeclarationForms.{attribute_parts, option_fits, fun_def_parts}
 use Rattle.cmd_grammar.specs.CommandForms.{form_after, is_other, unknown, or_wrong, command_form}
-use Rattle.cmd_grammar.specs.Grammar.{Begins, IsAttribute, attribute_fits, HasFunDef, HasKind, HasDeclaration, HasForm}
+use Rattle.term_grammar.specs.Grammar.{ReadsAttribute}
+use Rattle.cmd_grammar.specs.FormGrammar.{Begins, attribute_fits, HasFunDef, HasKind, HasDeclaration, HasForm}
 
 part_of-whole : (p : Part) → part_of (whole p) ≡ p
 part_of-whole (part.Atom t) = refl
@@ -35,7 +36,7 @@ found t word ts f b n h = begun_by_word t word ts b ∙ rw n (ap (or_wrong b.0) 
 fun_def_found : (ts : Sexps Tok) (f : FunDefParts) → HasFunDef ts f → fun_def_parts ts ≡ Some f
 fun_def_found ts f (at, e, s, n) = ap fun_def_parts e ∙ (rw (s, n, part_of-whole f.result, part_of-whole f.body) refl)
 
-attribute_found : (ts : Sexps Tok) (a : Attribute) → IsAttribute ts a → (p : Tok × Option (Sexp Tok)) × (attribute_parts ts ≡ Some p) × (attribute_of p.0 p.1 ≡ a)
+attribute_found : (ts : Sexps Tok) (a : Attribute) → ReadsAttribute ts a → (p : Tok × Option (Sexp Tok)) × (attribute_parts ts ≡ Some p) × (attribute_of p.0 p.1 ≡ a)
 attribute_found ts (keyword_attribute k) (e, h) = ((k, None), ap attribute_parts e ∙ (rw h refl), refl)
 attribute_found ts (valued_attribute k v) (e, h, i) = ((k, Some v), ap attribute_parts e ∙ (rw (h, i) refl), refl)
 

@@ -19,11 +19,12 @@ use Rattle.cmd_grammar.specs.declared.command_form.CommandForm.{CommandForm}
 use Rattle.cmd_grammar.specs.declared.command_form.CommandForm.TheVariants as form
 use Rattle.cmd_grammar.specs.DeclarationForms.{are_sort_decs, is_data_dec, are_data_decs, are_fun_decs, are_literals, attribute_parts, option_fits, fun_def_parts}
 use Rattle.cmd_grammar.specs.CommandForms.{assert_form, check_sat_assuming_form, declare_const_form, declare_datatype_form, declare_datatypes_form, declare_fun_form, declare_sort_form, define_fun_form, define_fun_rec_form, define_funs_rec_form, define_sort_form, echo_form, get_info_form, get_option_form, get_value_form, pop_form, push_form, set_info_form, set_logic_form, set_option_form, plain_form, form_after}
-use Rattle.cmd_grammar.specs.Grammar.{Begins, IsAttribute, attribute_fits, HasFunDef, HasForm}
+use Rattle.term_grammar.specs.Grammar.{ReadsAttribute}
+use Rattle.cmd_grammar.specs.FormGrammar.{Begins, attribute_fits, HasFunDef, HasForm}
 use Rattle.cmd_grammar.proofs.DoBlocks.{guard_true, empty_nil, end_is, symbol_is_first, token_is_first, any_is_first, list_is_first}
 
 -- the trees after the name, by what they are
-begun : {t : Sexp Tok} {word : CommandWord} {ts us : Sexps Tok} → Begins t word ts → ts ≡ us → Begins t word us
+pub begun : {t : Sexp Tok} {word : CommandWord} {ts us : Sexps Tok} → Begins t word ts → ts ≡ us → Begins t word us
 begun b e = (b.0, b.1, b.2 ∙ ap (λ xs. list b.0 (cons (atom b.1) xs)) e, b.3)
 
 -- the form that was found, by what it is
@@ -181,23 +182,23 @@ abbrev value_by : Bool → Sexp Tok → Sexps Tok → Option (Sexp Tok) × Sexps
 value_by b v us = if b then (Some v, us) else (None, cons v us)
 
 value_tested : (k : Tok) (v : Sexp Tok) (us : Sexps Tok) (b : Bool) → is_value v ≡ b → IsTrue (is_keyword k) → IsTrue (is_empty (value_by b v us).1)
-    → IsAttribute (cons (atom k) (cons v us)) (attribute_of k (value_by b v us).0)
+    → ReadsAttribute (cons (atom k) (cons v us)) (attribute_of k (value_by b v us).0)
 value_tested k v us true i h e = (ap (λ xs. cons (atom k) (cons v xs)) (empty_nil us e), h, i)
 value_tested k v us false i h e = absurd (cc)
 
 -- the value that comes next, where nothing comes after it
-attribute_by : (k : Tok) (us : Sexps Tok) → IsTrue (is_keyword k) → IsTrue (is_empty (value_first us).1) → IsAttribute (cons (atom k) us) (attribute_of k (value_first us).0)
+attribute_by : (k : Tok) (us : Sexps Tok) → IsTrue (is_keyword k) → IsTrue (is_empty (value_first us).1) → ReadsAttribute (cons (atom k) us) (attribute_of k (value_first us).0)
 attribute_by k nil h e = (refl, h)
 attribute_by k (cons v us) h e = value_tested k v us (is_value v) refl h e
 
-attribute_has : (ts : Sexps Tok) (p : Tok × Option (Sexp Tok)) → attribute_parts ts ≡ Some p → IsAttribute ts (attribute_of p.0 p.1)
+attribute_has : (ts : Sexps Tok) (p : Tok × Option (Sexp Tok)) → attribute_parts ts ≡ Some p → ReadsAttribute ts (attribute_of p.0 p.1)
 attribute_has ts p h =
     option_and_then_some _ (token_first ts) p h (λ a i h1.
     option_and_then_some _ (guard (is_keyword a.0)) p h1 (λ v j h2.
     option_and_then_some _ (guard (is_empty (value_first a.1).1)) p h2 (λ u q h3.
     let g : (a.0, (value_first a.1).0) ≡ p = cc in
-    let P : Sexps Tok → Type 0 = λ xs. IsAttribute xs (attribute_of a.0 (value_first a.1).0) in
-    let Q : Tok × Option (Sexp Tok) → Type 0 = λ x. IsAttribute ts (attribute_of x.0 x.1) in
+    let P : Sexps Tok → Type 0 = λ xs. ReadsAttribute xs (attribute_of a.0 (value_first a.1).0) in
+    let Q : Tok × Option (Sexp Tok) → Type 0 = λ x. ReadsAttribute ts (attribute_of x.0 x.1) in
     subst Q g (subst P (sym (token_is_first ts a i)) (attribute_by a.0 a.1 (guard_true (is_keyword a.0) v j) (guard_true (is_empty (value_first a.1).1) u q))))))
 
 fits : (k : Tok) (v : Option (Sexp Tok)) → IsTrue (option_fits k v) → IsTrue (attribute_fits (attribute_of k v))

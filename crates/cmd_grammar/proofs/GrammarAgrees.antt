@@ -10,8 +10,10 @@ use Rattle.cmd_grammar.specs.Commands.{Command}
 use Rattle.cmd_grammar.specs.CommandWords.{command_begun_by}
 use Rattle.cmd_grammar.specs.CommandForms.{form_after, is_other, unknown, or_wrong, command_form}
 use Rattle.cmd_grammar.specs.CommandReads.{command_by, or_wrong_term, command_of_form, read_command}
-use Rattle.cmd_grammar.specs.Grammar.{HasForm, ReadsCommand, BeginsCommand, IsGrammarFault}
+use Rattle.cmd_grammar.specs.FormGrammar.{HasForm}
+use Rattle.cmd_grammar.specs.Grammar.{ReadsCommand, BeginsCommand, IsGrammarFault}
 use Rattle.cmd_grammar.proofs.FormsHave.{form_has}
+use Rattle.cmd_grammar.proofs.CommandsAgree.{FormReads, form_reads, command_shown}
 use Rattle.cmd_grammar.proofs.FormsFound.{form_found}
 
 abbrev unknown_at : Sexp Tok → Place
@@ -57,8 +59,11 @@ reading t = refl
 
 -- ReadsCommand and the reading
 
+form_read : (t : Sexp Tok) (c : Command) → FormReads t c → read_command t ≡ Ok c
+form_read t c (f, h, e) = reading t ∙ ap command_of_form (form_found t f h) ∙ ap or_wrong_term e
+
 pub reads_found : (t : Sexp Tok) (c : Command) → ReadsCommand t c → read_command t ≡ Ok c
-reads_found t c (f, h, e) = reading t ∙ ap command_of_form (form_found t f h) ∙ ap or_wrong_term e
+reads_found t c h = form_read t c (command_shown t c h)
 
 no_error : (r : Result Command ℕ) (c : Command) → or_wrong_term r ≡ Ok c → r ≡ Ok c
 no_error (Ok d) c e = cc
@@ -68,7 +73,7 @@ clash : {A B : Type 0} (a : A) (b : B) → Ok a ≡ Err b → ⊥
 clash a b e = cc
 
 searched_reads : (t : Sexp Tok) (c : Command) → read_command t ≡ Ok c → Found t → ReadsCommand t c
-searched_reads t c e (has_form f b h k) = (f, h, no_error (command_by f) c (sym (ap command_of_form k) ∙ sym (reading t) ∙ e))
+searched_reads t c e (has_form f b h k) = form_reads t f c h (no_error (command_by f) c (sym (ap command_of_form k) ∙ sym (reading t) ∙ e))
 searched_reads t c e (begins_none n k) = absurd (clash c (unknown_at t) (sym e ∙ reading t ∙ ap command_of_form k))
 searched_reads t c e (has_no_form b k) = absurd (clash c (wrong_at t) (sym e ∙ reading t ∙ ap command_of_form k))
 

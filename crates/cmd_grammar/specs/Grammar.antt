@@ -1,112 +1,101 @@
--- The grammar of commands (SMT-LIB 2.6, section 3.9) as relations, one case for each command, and what is wrong with a tree
--- that is no command. A tree first has the form of a command, where any tree fits in the position of a sort or a term. Then
--- those trees are read, left to right, a tree before its parts.
-use Rattle.std.specs.Prelude.{◌≡◌, ◌⊎◌, ℕ, Bool, not, map, Some, None, Ok, Err, IsTrue}
+-- The grammar of commands (SMT-LIB 2.6, section 3.9): which trees are which commands, one case for each command, and what is
+-- wrong with a tree that is none.
+use Rattle.std.specs.Prelude.{◌≡◌, ◌⊎◌, ℕ, not, List, [], ◌∷◌, Err, IsTrue}
 use Rattle.sig_table.specs.declared.code.Code.TheVariants as code
 use Rattle.lex_core.specs.declared.token.Tok.{Tok}
 use Rattle.lex_core.specs.declared.place.Place.{Place}
 use Rattle.sexp_core.specs.Sexp.{Sexp, atom, list, Sexps, nil, cons, count_of}
-use Rattle.sexp_core.specs.Parts.{whole}
-use Rattle.term_grammar.specs.Words.{is_symbol, is_numeral, is_string, is_keyword}
-use Rattle.term_grammar.specs.FirstParts.{is_empty}
-use Rattle.term_grammar.specs.Syntax.{Attribute, keyword_attribute, valued_attribute}
-use Rattle.term_grammar.specs.Values.{is_value}
-use Rattle.term_grammar.specs.TermForms.{are_symbols, are_named}
-use Rattle.term_grammar.specs.Reads.{byte_of, tokens_of}
+use Rattle.term_grammar.specs.declared.words.TheConstants.{PAR, NOT}
+use Rattle.term_grammar.specs.Words.{is_symbol, is_numeral, is_string, is_keyword, is_reserved}
+use Rattle.term_grammar.specs.FirstParts.{atoms}
+use Rattle.term_grammar.specs.Grammar.{NotEmpty, AreSymbols, ReadsSort, ReadsSorts, ReadsVariables, ReadsAttribute, ReadsTerm, ReadsTerms}
+use Rattle.term_grammar.specs.Reads.{byte_of}
 use Rattle.cmd_grammar.specs.declared.command_word.CommandWord.{CommandWord}
 use Rattle.cmd_grammar.specs.declared.command_word.CommandWord.TheVariants as command
-use Rattle.cmd_grammar.specs.declared.command_kind.RawCommandKind.{RawCommandKind}
-use Rattle.cmd_grammar.specs.declared.command_kind.RawCommandKind.TheVariants as kind
-use Rattle.cmd_grammar.specs.declared.declaration_form.FunDefParts.{FunDefParts}
 use Rattle.cmd_grammar.specs.declared.command_form.CommandForm.{CommandForm}
-use Rattle.cmd_grammar.specs.declared.command_form.CommandForm.TheVariants as form
-use Rattle.cmd_grammar.specs.declared.command_form.DeclarationForm.{DeclarationForm}
-use Rattle.cmd_grammar.specs.declared.command_form.DeclarationForm.TheVariants as declaration
-use Rattle.cmd_grammar.specs.TreeLists.{each_tree}
-use Rattle.cmd_grammar.specs.Commands.{Command}
-use Rattle.cmd_grammar.specs.CommandWords.{command_begun_by}
-use Rattle.cmd_grammar.specs.DeclarationForms.{are_sort_decs, is_data_dec, are_data_decs, are_fun_decs, are_literals, option_fits}
-use Rattle.cmd_grammar.specs.DeclarationReads.{literal_of, sort_dec_of}
+use Rattle.cmd_grammar.specs.Commands.{SortDec, ConstructorDec, DataDec, plain_data, parametric_data, FunDec, FunDef, Literal, positive, negative, Command, assert, check_sat, check_sat_assuming, declare_const, declare_datatype, declare_datatypes, declare_fun, declare_sort, define_fun, define_fun_rec, define_funs_rec, define_sort, echo, exit, get_assertions, get_assignment, get_info, get_model, get_option, get_proof, get_unsat_assumptions, get_unsat_core, get_value, pop, push, reset, reset_assertions, set_info, set_logic, set_option}
 use Rattle.cmd_grammar.specs.CommandForms.{is_other}
+use Rattle.cmd_grammar.specs.FormGrammar.{Begins, attribute_fits, HasForm}
 use Rattle.cmd_grammar.specs.CommandReads.{command_by}
 
--- a list that begins with the name of a command, and the trees after the name
-abbrev pub Begins : Sexp Tok → CommandWord → Sexps Tok → Type 0
-Begins t word ts = (at : ℕ) × (w : Tok) × (t ≡ list at (cons (atom w) ts)) × (command_begun_by w ≡ word)
+-- the trees read one by one
+abbrev pub ReadsEach : {A : Type 0} → (Sexp Tok → A → Type 0) → Sexps Tok → List A → Type 0
+ReadsEach R ts [] = ts ≡ nil
+ReadsEach R ts (x ∷ xs) = (u : Sexp Tok) × (us : Sexps Tok) × (ts ≡ cons u us) × R u x × ReadsEach R us xs
 
-abbrev pub IsNotEmpty : Sexps Tok → Type 0
-IsNotEmpty ts = IsTrue (not (is_empty ts))
+-- symbol | ( not symbol )
+abbrev pub ReadsLiteral : Sexp Tok → Literal → Type 0
+ReadsLiteral t (positive s) = (t ≡ atom s) × IsTrue (is_symbol s)
+ReadsLiteral t (negative at w s) =
+    (t ≡ list at (cons (atom w) (cons (atom s) nil))) × IsTrue (is_symbol w) × (w.name ≡ NOT) × IsTrue (is_symbol s)
 
--- keyword | keyword value
-abbrev pub IsAttribute : Sexps Tok → Attribute → Type 0
-IsAttribute ts (keyword_attribute k) = (ts ≡ cons (atom k) nil) × IsTrue (is_keyword k)
-IsAttribute ts (valued_attribute k v) = (ts ≡ cons (atom k) (cons v nil)) × IsTrue (is_keyword k) × IsTrue (is_value v)
+-- ( symbol numeral )
+abbrev pub ReadsSortDec : Sexp Tok → SortDec → Type 0
+ReadsSortDec t d = (t ≡ list d.at (cons (atom d.name) (cons (atom d.arity) nil))) × IsTrue (is_symbol d.name) × IsTrue (is_numeral d.arity)
 
--- `:global-declarations` is set to `true` or `false`
-abbrev pub attribute_fits : Attribute → Bool
-attribute_fits (keyword_attribute k) = option_fits k None
-attribute_fits (valued_attribute k v) = option_fits k (Some v)
+-- ( symbol selector* )
+abbrev pub ReadsConstructorDec : Sexp Tok → ConstructorDec → Type 0
+ReadsConstructorDec t c = (us : Sexps Tok) × (t ≡ list c.at (cons (atom c.name) us)) × IsTrue (is_symbol c.name) × ReadsVariables us c.selectors
+
+-- ( con_dec+ ) | ( par ( symbol+ ) ( con_dec+ ) )
+abbrev pub ReadsDataDec : Sexp Tok → DataDec → Type 0
+ReadsDataDec t (plain_data at cs) = (us : Sexps Tok) × (t ≡ list at us) × NotEmpty us × ReadsEach ReadsConstructorDec us cs
+ReadsDataDec t (parametric_data at ps cs) =
+    (w : Tok) × (a : ℕ) × (b : ℕ) × (us : Sexps Tok) × (t ≡ list at (cons (atom w) (cons (list a (atoms ps)) (cons (list b us) nil))))
+    × IsTrue (is_reserved PAR w) × NotEmpty (atoms ps) × AreSymbols ps × NotEmpty us × ReadsEach ReadsConstructorDec us cs
+
+-- ( symbol ( variable* ) sort )
+abbrev pub ReadsFunDec : Sexp Tok → FunDec → Type 0
+ReadsFunDec t f =
+    (a : ℕ) × (vs : Sexps Tok) × (u : Sexp Tok) × (t ≡ list f.at (cons (atom f.name) (cons (list a vs) (cons u nil))))
+    × IsTrue (is_symbol f.name) × ReadsVariables vs f.params × ReadsSort u f.result
 
 -- symbol ( variable* ) sort term
-abbrev pub HasFunDef : Sexps Tok → FunDefParts → Type 0
-HasFunDef ts f =
-    (at : ℕ) × (ts ≡ cons (atom f.name) (cons (list at f.params) (cons (whole f.result) (cons (whole f.body) nil))))
-    × IsTrue (is_symbol f.name) × IsTrue (are_named f.params)
+abbrev pub ReadsFunDef : Sexps Tok → FunDef → Type 0
+ReadsFunDef ts f =
+    (a : ℕ) × (vs : Sexps Tok) × (u : Sexp Tok) × (v : Sexp Tok) × (ts ≡ cons (atom f.name) (cons (list a vs) (cons u (cons v nil))))
+    × IsTrue (is_symbol f.name) × ReadsVariables vs f.params × ReadsSort u f.result × ReadsTerm v f.body
 
--- the commands without sorts and terms
-abbrev pub HasKind : Sexp Tok → RawCommandKind → Type 0
-HasKind t kind.CheckSat = Begins t command.CheckSat nil
-HasKind t (kind.CheckSatAssuming ls) =
-    (at : ℕ) × (ts : Sexps Tok) × Begins t command.CheckSatAssuming (cons (list at ts) nil) × IsTrue (are_literals ts) × (ls ≡ map literal_of (each_tree ts))
-HasKind t (kind.DeclareSort n a) = Begins t command.DeclareSort (cons (atom n) (cons (atom a) nil)) × IsTrue (is_symbol n) × IsTrue (is_numeral a)
-HasKind t (kind.Echo s) = Begins t command.Echo (cons (atom s) nil) × IsTrue (is_string s)
-HasKind t kind.Exit = Begins t command.Exit nil
-HasKind t kind.GetAssertions = Begins t command.GetAssertions nil
-HasKind t kind.GetAssignment = Begins t command.GetAssignment nil
-HasKind t (kind.GetInfo k) = Begins t command.GetInfo (cons (atom k) nil) × IsTrue (is_keyword k)
-HasKind t kind.GetModel = Begins t command.GetModel nil
-HasKind t (kind.GetOption k) = Begins t command.GetOption (cons (atom k) nil) × IsTrue (is_keyword k)
-HasKind t kind.GetProof = Begins t command.GetProof nil
-HasKind t kind.GetUnsatAssumptions = Begins t command.GetUnsatAssumptions nil
-HasKind t kind.GetUnsatCore = Begins t command.GetUnsatCore nil
-HasKind t (kind.Pop n) = Begins t command.Pop (cons (atom n) nil) × IsTrue (is_numeral n)
-HasKind t (kind.Push n) = Begins t command.Push (cons (atom n) nil) × IsTrue (is_numeral n)
-HasKind t kind.Reset = Begins t command.Reset nil
-HasKind t kind.ResetAssertions = Begins t command.ResetAssertions nil
-HasKind t (kind.SetInfo a) = (ts : Sexps Tok) × Begins t command.SetInfo ts × IsAttribute ts a
-HasKind t (kind.SetLogic n) = Begins t command.SetLogic (cons (atom n) nil) × IsTrue (is_symbol n)
-HasKind t (kind.SetOption a) = (ts : Sexps Tok) × Begins t command.SetOption ts × IsAttribute ts a × IsTrue (attribute_fits a)
-HasKind t _ = ⊥
-
--- the declarations with sorts, and the definition of a sort
-abbrev pub HasDeclaration : Sexp Tok → DeclarationForm → Type 0
-HasDeclaration t (declaration.Const n s) = Begins t command.DeclareConst (cons (atom n) (cons (whole s) nil)) × IsTrue (is_symbol n)
-HasDeclaration t (declaration.Datatype n d) =
-    Begins t command.DeclareDatatype (cons (atom n) (cons (whole d) nil)) × IsTrue (is_symbol n) × IsTrue (is_data_dec (whole d))
-HasDeclaration t (declaration.Datatypes ss ds) =
-    (at : ℕ) × (ts : Sexps Tok) × (b : ℕ) × Begins t command.DeclareDatatypes (cons (list at ts) (cons (list b ds) nil))
-    × IsNotEmpty ts × IsTrue (are_sort_decs ts) × (ss ≡ map sort_dec_of (each_tree ts)) × IsNotEmpty ds × IsTrue (are_data_decs ds)
-HasDeclaration t (declaration.Fun n ss r) =
-    (at : ℕ) × Begins t command.DeclareFun (cons (atom n) (cons (list at ss) (cons (whole r) nil))) × IsTrue (is_symbol n)
-HasDeclaration t (declaration.Sort n ps s) =
-    (at : ℕ) × (ts : Sexps Tok) × Begins t command.DefineSort (cons (atom n) (cons (list at ts) (cons (whole s) nil)))
-    × IsTrue (is_symbol n) × IsTrue (are_symbols ts) × (ps ≡ tokens_of ts)
-
--- the form of a command
-abbrev pub HasForm : Sexp Tok → CommandForm → Type 0
-HasForm t (form.Complete k) = HasKind t k
-HasForm t (form.Declaration d) = HasDeclaration t d
-HasForm t (form.Assert u) = Begins t command.Assert (cons (whole u) nil)
-HasForm t (form.DefineFun f) = (ts : Sexps Tok) × Begins t command.DefineFun ts × HasFunDef ts f
-HasForm t (form.DefineFunRec f) = (ts : Sexps Tok) × Begins t command.DefineFunRec ts × HasFunDef ts f
-HasForm t (form.DefineFunsRec ds bs) =
-    (at : ℕ) × (b : ℕ) × Begins t command.DefineFunsRec (cons (list at ds) (cons (list b bs) nil))
-    × IsNotEmpty ds × IsTrue (are_fun_decs ds) × IsNotEmpty bs × (count_of ds ≡ count_of bs)
-HasForm t (form.GetValue us) = (at : ℕ) × Begins t command.GetValue (cons (list at us) nil) × IsNotEmpty us
-
--- a tree is a command: it has the form of one, and the sorts and terms in it read
+-- one case for each command
 abbrev pub ReadsCommand : Sexp Tok → Command → Type 0
-ReadsCommand t c = (f : CommandForm) × HasForm t f × (command_by f ≡ Ok c)
+ReadsCommand t (assert u) = (v : Sexp Tok) × Begins t command.Assert (cons v nil) × ReadsTerm v u
+ReadsCommand t check_sat = Begins t command.CheckSat nil
+ReadsCommand t (check_sat_assuming ls) = (at : ℕ) × (ts : Sexps Tok) × Begins t command.CheckSatAssuming (cons (list at ts) nil) × ReadsEach ReadsLiteral ts ls
+ReadsCommand t (declare_const n s) = (u : Sexp Tok) × Begins t command.DeclareConst (cons (atom n) (cons u nil)) × IsTrue (is_symbol n) × ReadsSort u s
+ReadsCommand t (declare_datatype n d) = (u : Sexp Tok) × Begins t command.DeclareDatatype (cons (atom n) (cons u nil)) × IsTrue (is_symbol n) × ReadsDataDec u d
+ReadsCommand t (declare_datatypes ss ds) =
+    (at : ℕ) × (ts : Sexps Tok) × (b : ℕ) × (us : Sexps Tok) × Begins t command.DeclareDatatypes (cons (list at ts) (cons (list b us) nil))
+    × NotEmpty ts × ReadsEach ReadsSortDec ts ss × NotEmpty us × ReadsEach ReadsDataDec us ds
+ReadsCommand t (declare_fun n ss s) =
+    (at : ℕ) × (ts : Sexps Tok) × (u : Sexp Tok) × Begins t command.DeclareFun (cons (atom n) (cons (list at ts) (cons u nil)))
+    × IsTrue (is_symbol n) × ReadsSorts ts ss × ReadsSort u s
+ReadsCommand t (declare_sort n a) = Begins t command.DeclareSort (cons (atom n) (cons (atom a) nil)) × IsTrue (is_symbol n) × IsTrue (is_numeral a)
+ReadsCommand t (define_fun f) = (ts : Sexps Tok) × Begins t command.DefineFun ts × ReadsFunDef ts f
+ReadsCommand t (define_fun_rec f) = (ts : Sexps Tok) × Begins t command.DefineFunRec ts × ReadsFunDef ts f
+ReadsCommand t (define_funs_rec fs us) =
+    (at : ℕ) × (ts : Sexps Tok) × (b : ℕ) × (vs : Sexps Tok) × Begins t command.DefineFunsRec (cons (list at ts) (cons (list b vs) nil))
+    × NotEmpty ts × ReadsEach ReadsFunDec ts fs × NotEmpty vs × ReadsTerms vs us × (count_of ts ≡ count_of vs)
+ReadsCommand t (define_sort n ps s) =
+    (at : ℕ) × (u : Sexp Tok) × Begins t command.DefineSort (cons (atom n) (cons (list at (atoms ps)) (cons u nil)))
+    × IsTrue (is_symbol n) × AreSymbols ps × ReadsSort u s
+ReadsCommand t (echo s) = Begins t command.Echo (cons (atom s) nil) × IsTrue (is_string s)
+ReadsCommand t exit = Begins t command.Exit nil
+ReadsCommand t get_assertions = Begins t command.GetAssertions nil
+ReadsCommand t get_assignment = Begins t command.GetAssignment nil
+ReadsCommand t (get_info k) = Begins t command.GetInfo (cons (atom k) nil) × IsTrue (is_keyword k)
+ReadsCommand t get_model = Begins t command.GetModel nil
+ReadsCommand t (get_option k) = Begins t command.GetOption (cons (atom k) nil) × IsTrue (is_keyword k)
+ReadsCommand t get_proof = Begins t command.GetProof nil
+ReadsCommand t get_unsat_assumptions = Begins t command.GetUnsatAssumptions nil
+ReadsCommand t get_unsat_core = Begins t command.GetUnsatCore nil
+ReadsCommand t (get_value us) = (at : ℕ) × (vs : Sexps Tok) × Begins t command.GetValue (cons (list at vs) nil) × NotEmpty vs × ReadsTerms vs us
+ReadsCommand t (pop n) = Begins t command.Pop (cons (atom n) nil) × IsTrue (is_numeral n)
+ReadsCommand t (push n) = Begins t command.Push (cons (atom n) nil) × IsTrue (is_numeral n)
+ReadsCommand t reset = Begins t command.Reset nil
+ReadsCommand t reset_assertions = Begins t command.ResetAssertions nil
+ReadsCommand t (set_info a) = (ts : Sexps Tok) × Begins t command.SetInfo ts × ReadsAttribute ts a
+ReadsCommand t (set_logic n) = Begins t command.SetLogic (cons (atom n) nil) × IsTrue (is_symbol n)
+ReadsCommand t (set_option a) = (ts : Sexps Tok) × Begins t command.SetOption ts × ReadsAttribute ts a × IsTrue (attribute_fits a)
 
 -- the tree begins with the name of a command
 abbrev pub BeginsCommand : Sexp Tok → Type 0
