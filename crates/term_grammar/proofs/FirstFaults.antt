@@ -26,23 +26,23 @@ use Rattle.term_grammar.proofs.Shapes.{sort_shape, sort_formed, qualified_formed
 
 -- the judgement of the trees in some positions, one after the other
 
-abbrev judge : Position → Result (Unit {0}) ℕ
+abbrev pub judge : Position → Result (Unit {0}) ℕ
 judge (a_sort t) = judged (read_sort t)
 judge (a_term t) = judged (read_term t)
 
-abbrev judge_all : List Position → Result (Unit {0}) ℕ
+abbrev pub judge_all : List Position → Result (Unit {0}) ℕ
 judge_all [] = Ok tt
 judge_all (p ∷ ps) = both (judge p) (judge_all ps)
 
-both_more : (a b c : Result (Unit {0}) ℕ) → both (both a b) c ≡ both a (both b c)
+pub both_more : (a b c : Result (Unit {0}) ℕ) → both (both a b) c ≡ both a (both b c)
 both_more (Ok u) b c = refl
 both_more (Err e) b c = refl
 
-both_ok : (a : Result (Unit {0}) ℕ) → both a (Ok tt) ≡ a
+pub both_ok : (a : Result (Unit {0}) ℕ) → both a (Ok tt) ≡ a
 both_ok (Ok u) = refl
 both_ok (Err e) = refl
 
-judge_append : (ps qs : List Position) → judge_all (ps ++ qs) ≡ both (judge_all ps) (judge_all qs)
+pub judge_append : (ps qs : List Position) → judge_all (ps ++ qs) ≡ both (judge_all ps) (judge_all qs)
 judge_append [] qs = refl
 judge_append (p ∷ ps) qs = ap (both (judge p)) (judge_append ps qs) ∙ sym (both_more (judge p) (judge_all ps) (judge_all qs))
 
@@ -55,15 +55,15 @@ by_test : {P : Type 0} (b : Bool) → (b ≡ true → P) → (b ≡ false → P)
 by_test true h k = h refl
 by_test false h k = k refl
 
-sorts_judged : (ts : Sexps Tok) → judged (read_sorts ts) ≡ judge_all (sorts ts)
+pub sorts_judged : (ts : Sexps Tok) → judged (read_sorts ts) ≡ judge_all (sorts ts)
 sorts_judged nil = judged-no_sorts
 sorts_judged (cons t ts) = judged-sorts t ts ∙ ap (both (judged (read_sort t))) (sorts_judged ts)
 
-terms_judged : (ts : Sexps Tok) → judged (read_terms ts) ≡ judge_all (terms ts)
+pub terms_judged : (ts : Sexps Tok) → judged (read_terms ts) ≡ judge_all (terms ts)
 terms_judged nil = judged-no_terms
 terms_judged (cons t ts) = judged-terms t ts ∙ ap (both (judged (read_term t))) (terms_judged ts)
 
-variables_judged : (ts : Sexps Tok) → are_named ts ≡ true → judged (read_sorted ts) ≡ judge_all (seconds a_sort ts)
+pub variables_judged : (ts : Sexps Tok) → are_named ts ≡ true → judged (read_sorted ts) ≡ judge_all (seconds a_sort ts)
 unfolding read_sorted
 variables_judged nil e = refl
 variables_judged (cons (atom t) ts) e = refl
@@ -334,7 +334,10 @@ faults_found (suc k) (p ∷ ps) n h e =
     let w = weight_pos p in
     found_in p ps n (decide p) (λ qs l. faults_found k qs n (omega (arith, l, h))) (faults_found k ps n (omega (arith, w, h))) e
 
-faults_sound : (ps : List Position) (n : ℕ) → FirstFault ps n → judge_all ps ≡ Err n
+pub first_fault : (ps : List Position) (n : ℕ) → judge_all ps ≡ Err n → FirstFault ps n
+first_fault ps n e = faults_found (total ps) ps n (omega arith) e
+
+pub faults_sound : (ps : List Position) (n : ℕ) → FirstFault ps n → judge_all ps ≡ Err n
 faults_sound _ _ (here p ps shapeless) = no_shape p ps shapeless (decide p)
   where
     no_shape : (p : Position) (ps : List Position) → ((qs : List Position) → HasShape p qs → ⊥) → Decided p → both (judge p) (judge_all ps) ≡ Err (position_at p)
@@ -347,7 +350,7 @@ faults_sound _ _ (after p ps n r f) = ap (λ x. both x (judge_all ps)) (judged_o
     judged_ok (a_sort t) (s, r) = ap judged (sort_sound s t r)
     judged_ok (a_term t) (u, r) = ap judged (term_sound u t r)
 
-judged_err : {A : Type 0} (r : Result A ℕ) (n : ℕ) → judged r ≡ Err n → r ≡ Err n
+pub judged_err : {A : Type 0} (r : Result A ℕ) (n : ℕ) → judged r ≡ Err n → r ≡ Err n
 judged_err (Ok a) n e = absurd (no_fault n e)
 judged_err (Err m) n e = ap Err (same_fault m n e)
 
@@ -355,10 +358,10 @@ pub sort_fault_sound : (t : Sexp Tok) (n : ℕ) → FaultOfSort t n → read_sor
 sort_fault_sound t n f = judged_err (read_sort t) n (sym (both_ok (judged (read_sort t))) ∙ faults_sound _ n f)
 
 pub sort_fault_found : (t : Sexp Tok) (n : ℕ) → read_sort t ≡ Err n → FaultOfSort t n
-sort_fault_found t n e = faults_found (total (a_sort t ∷ [])) (a_sort t ∷ []) n (omega arith) (both_ok (judged (read_sort t)) ∙ ap judged e)
+sort_fault_found t n e = first_fault (a_sort t ∷ []) n (both_ok (judged (read_sort t)) ∙ ap judged e)
 
 pub term_fault_sound : (t : Sexp Tok) (n : ℕ) → FaultOfTerm t n → read_term t ≡ Err n
 term_fault_sound t n f = judged_err (read_term t) n (sym (both_ok (judged (read_term t))) ∙ faults_sound _ n f)
 
 pub term_fault_found : (t : Sexp Tok) (n : ℕ) → read_term t ≡ Err n → FaultOfTerm t n
-term_fault_found t n e = faults_found (total (a_term t ∷ [])) (a_term t ∷ []) n (omega arith) (both_ok (judged (read_term t)) ∙ ap judged e)
+term_fault_found t n e = first_fault (a_term t ∷ []) n (both_ok (judged (read_term t)) ∙ ap judged e)

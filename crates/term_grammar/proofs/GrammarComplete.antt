@@ -38,6 +38,7 @@ choice false r s P h k = k refl
 
 mutual
   unfolding read_sort
+
   pub sort_complete : (t : Sexp Tok) → IfOk (read_sort t) (ReadsSort t)
   sort_complete (atom t) = choice (is_identifier (atom t)) _ _ (ReadsSort (atom t)) (identifier_found (atom t)) (λ _. tt)
   sort_complete (list at nil) = tt
@@ -137,6 +138,7 @@ word_chosen at w ts word.Other r a b c d e = tt
 
 mutual
   unfolding read_term
+
   pub term_complete : (t : Sexp Tok) → IfOk (read_term t) (ReadsTerm t)
   term_complete (atom t) =
       choice (is_qualified (atom t)) _ _ (ReadsTerm (atom t)) (λ _. made qualified_term (read_qualified (atom t)) (ReadsQualified (atom t)) (ReadsTerm (atom t)) (λ q p. p) (qualified_complete (atom t)))

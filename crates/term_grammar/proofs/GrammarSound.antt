@@ -141,11 +141,12 @@ unfolding read_qualified
 as_qualified at w h u r i =
     let T = list at (cons (atom w) (cons h (cons u nil))) in
     let n : is_identifier T ≡ false = no_list at w (cons h (cons u nil)) (other_word AS UNDERSCORE w refl r) in
-    let a = as_is w h u r i in
-    (other (is_identifier T) _ _ n ∙ ap (qualified_by at) a
-    ∙ ap (λ (x : Sexp Tok). made_of (qualified at (identifier_of x)) (read_sort (whole (part_of u)))) (whole-part_of h)
-    ∙ ap (λ (x : Sexp Tok). made_of (qualified at (identifier_of h)) (read_sort x)) (whole-part_of u),
-    ap (λ b. b || is_as T) n ∙ ap (λ (o : Option (Part × Part)). is_some o) a)
+    let a = as_is w h u r i in (
+      other (is_identifier T) _ _ n ∙ ap (qualified_by at) a
+          ∙ ap (λ (x : Sexp Tok). made_of (qualified at (identifier_of x)) (read_sort (whole (part_of u)))) (whole-part_of h)
+          ∙ ap (λ (x : Sexp Tok). made_of (qualified at (identifier_of h)) (read_sort x)) (whole-part_of u),
+      ap (λ b. b || is_as T) n ∙ ap (λ (o : Option (Part × Part)). is_some o) a,
+    )
 
 pub qualified_sound : (q : Qualified) (t : Sexp Tok) → ReadsQualified t q → (read_qualified t ≡ Ok q) × (is_qualified t ≡ true)
 qualified_sound (unqualified i) t p =
@@ -279,20 +280,23 @@ named_read k n vs ns a s d e =
 pattern_read : (k : Tok) (b : ℕ) (ps vs : Sexps Tok) (us : Terms) (ns : Notes) → is_key PATTERN k ≡ true → NotEmpty ps → read_terms ps ≡ Ok us → read_notes vs ≡ Ok ns → are_notes vs ≡ true
     → (read_notes (cons (atom k) (cons (list b ps) vs)) ≡ Ok (with_pattern us ns)) × (are_notes (cons (atom k) (cons (list b ps) vs)) ≡ true)
 unfolding read_term
-pattern_read k b ps vs us ns a n c d e =
-    (chosen (is_key PATTERN k) _ _ a ∙ chosen (not (is_empty ps)) _ _ n ∙ made_two with_pattern (read_terms ps) (read_notes vs) us ns c d,
-    chosen (is_key PATTERN k) _ _ a ∙ true_both (not (is_empty ps)) (are_notes vs) n e)
+pattern_read k b ps vs us ns a n c d e = (
+  chosen (is_key PATTERN k) _ _ a ∙ chosen (not (is_empty ps)) _ _ n ∙ made_two with_pattern (read_terms ps) (read_notes vs) us ns c d,
+  chosen (is_key PATTERN k) _ _ a ∙ true_both (not (is_empty ps)) (are_notes vs) n e,
+)
 
 valued_read : (k : Tok) (v : Sexp Tok) (vs : Sexps Tok) (ns : Notes) → is_key NAMED k ≡ false → is_key PATTERN k ≡ false → is_other_key k ≡ true → is_value v ≡ true
     → read_notes vs ≡ Ok ns → are_notes vs ≡ true
     → (read_notes (cons (atom k) (cons v vs)) ≡ Ok (with_attribute k (Some v) ns)) × (are_notes (cons (atom k) (cons v vs)) ≡ true)
 unfolding read_term
-valued_read k (atom v) vs ns a b o q d e =
-    (other (is_key NAMED k) _ _ a ∙ chosen (is_other_key k) _ _ o ∙ chosen (is_value_token v) _ _ q ∙ made (with_attribute k (Some (atom v))) (read_notes vs) ns d,
-    other (is_key NAMED k) _ _ a ∙ true_both (is_other_key k) _ o (chosen (is_value_token v) _ _ q ∙ e))
-valued_read k (list at us) vs ns a b o q d e =
-    (other (is_key PATTERN k) _ _ b ∙ chosen (is_other_key k) _ _ o ∙ made (with_attribute k (Some (list at us))) (read_notes vs) ns d,
-    other (is_key PATTERN k) _ _ b ∙ true_both (is_other_key k) _ o e)
+valued_read k (atom v) vs ns a b o q d e = (
+  other (is_key NAMED k) _ _ a ∙ chosen (is_other_key k) _ _ o ∙ chosen (is_value_token v) _ _ q ∙ made (with_attribute k (Some (atom v))) (read_notes vs) ns d,
+  other (is_key NAMED k) _ _ a ∙ true_both (is_other_key k) _ o (chosen (is_value_token v) _ _ q ∙ e),
+)
+valued_read k (list at us) vs ns a b o q d e = (
+  other (is_key PATTERN k) _ _ b ∙ chosen (is_other_key k) _ _ o ∙ made (with_attribute k (Some (list at us))) (read_notes vs) ns d,
+  other (is_key PATTERN k) _ _ b ∙ true_both (is_other_key k) _ o e,
+)
 
 alone_read : (k : Tok) → is_other_key k ≡ true → (read_notes (cons (atom k) nil) ≡ Ok (with_attribute k None no_notes)) × (are_notes (cons (atom k) nil) ≡ true)
 unfolding read_term
@@ -302,9 +306,10 @@ keyword_read : (k l : Tok) (vs : Sexps Tok) (ns : Notes) → is_key NAMED k ≡ 
     → read_notes (cons (atom l) vs) ≡ Ok ns → are_notes (cons (atom l) vs) ≡ true
     → (read_notes (cons (atom k) (cons (atom l) vs)) ≡ Ok (with_attribute k None ns)) × (are_notes (cons (atom k) (cons (atom l) vs)) ≡ true)
 unfolding read_term
-keyword_read k l vs ns a o q d e =
-    (other (is_key NAMED k) _ _ a ∙ chosen (is_other_key k) _ _ o ∙ other (is_value_token l) _ _ q ∙ made (with_attribute k None) (read_notes (cons (atom l) vs)) ns d,
-    other (is_key NAMED k) _ _ a ∙ true_both (is_other_key k) _ o (other (is_value_token l) _ _ q ∙ e))
+keyword_read k l vs ns a o q d e = (
+  other (is_key NAMED k) _ _ a ∙ chosen (is_other_key k) _ _ o ∙ other (is_value_token l) _ _ q ∙ made (with_attribute k None) (read_notes (cons (atom l) vs)) ns d,
+  other (is_key NAMED k) _ _ a ∙ true_both (is_other_key k) _ o (other (is_value_token l) _ _ q ∙ e),
+)
 
 -- attributes begin with a keyword
 Starts : Sexps Tok → Type 0

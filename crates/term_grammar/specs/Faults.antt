@@ -42,30 +42,30 @@ pattern_terms _ = []
 pub data SortShape (t : Sexp Tok) (ps : List Position) : Type 0 where
   named : (i : Identifier) → ReadsIdentifier t i → ps ≡ [] → SortShape t ps
   applied : (at : ℕ) (h : Sexp Tok) (ts : Sexps Tok) (i : Identifier) → t ≡ list at (cons h ts) → ReadsIdentifier h i → NotEmpty ts
-    → ps ≡ sorts ts → SortShape t ps
+      → ps ≡ sorts ts → SortShape t ps
 
 -- identifier | ( as identifier tree )
 pub data QualifiedShape (t : Sexp Tok) (ps : List Position) : Type 0 where
   bare : (i : Identifier) → ReadsIdentifier t i → ps ≡ [] → QualifiedShape t ps
   as_sort : (at : ℕ) (w : Tok) (h u : Sexp Tok) (i : Identifier) → t ≡ list at (cons (atom w) (cons h (cons u nil)))
-    → IsTrue (is_reserved AS w) → ReadsIdentifier h i → ps ≡ a_sort u ∷ [] → QualifiedShape t ps
+      → IsTrue (is_reserved AS w) → ReadsIdentifier h i → ps ≡ a_sort u ∷ [] → QualifiedShape t ps
 
 -- each production of a term over trees, with the sorts and terms in it, in the order of the text
 pub data TermShape (t : Sexp Tok) (ps : List Position) : Type 0 where
   constant_shape : (c : Tok) → t ≡ atom c → IsTrue (is_constant c) → ps ≡ [] → TermShape t ps
   qualified_shape : QualifiedShape t ps → TermShape t ps
   application_shape : (at : ℕ) (h : Sexp Tok) (ts : Sexps Tok) (qs : List Position) → t ≡ list at (cons h ts) → QualifiedShape h qs → NotEmpty ts
-    → ps ≡ qs ++ terms ts → TermShape t ps
+      → ps ≡ qs ++ terms ts → TermShape t ps
   let_shape : (at : ℕ) (w : Tok) (b : ℕ) (bs : Sexps Tok) (u : Sexp Tok) → t ≡ list at (cons (atom w) (cons (list b bs) (cons u nil)))
-    → IsTrue (is_reserved LET w) → NotEmpty bs → IsTrue (are_named bs) → ps ≡ seconds a_term bs ++ a_term u ∷ [] → TermShape t ps
+      → IsTrue (is_reserved LET w) → NotEmpty bs → IsTrue (are_named bs) → ps ≡ seconds a_term bs ++ a_term u ∷ [] → TermShape t ps
   forall_shape : (at : ℕ) (w : Tok) (b : ℕ) (vs : Sexps Tok) (u : Sexp Tok) → t ≡ list at (cons (atom w) (cons (list b vs) (cons u nil)))
-    → IsTrue (is_reserved FORALL w) → NotEmpty vs → IsTrue (are_named vs) → ps ≡ seconds a_sort vs ++ a_term u ∷ [] → TermShape t ps
+      → IsTrue (is_reserved FORALL w) → NotEmpty vs → IsTrue (are_named vs) → ps ≡ seconds a_sort vs ++ a_term u ∷ [] → TermShape t ps
   exists_shape : (at : ℕ) (w : Tok) (b : ℕ) (vs : Sexps Tok) (u : Sexp Tok) → t ≡ list at (cons (atom w) (cons (list b vs) (cons u nil)))
-    → IsTrue (is_reserved EXISTS w) → NotEmpty vs → IsTrue (are_named vs) → ps ≡ seconds a_sort vs ++ a_term u ∷ [] → TermShape t ps
+      → IsTrue (is_reserved EXISTS w) → NotEmpty vs → IsTrue (are_named vs) → ps ≡ seconds a_sort vs ++ a_term u ∷ [] → TermShape t ps
   match_shape : (at : ℕ) (w : Tok) (u : Sexp Tok) (b : ℕ) (cs : Sexps Tok) → t ≡ list at (cons (atom w) (cons u (cons (list b cs) nil)))
-    → IsTrue (is_reserved MATCH w) → NotEmpty cs → IsTrue (are_cases cs) → ps ≡ a_term u ∷ seconds a_term cs → TermShape t ps
+      → IsTrue (is_reserved MATCH w) → NotEmpty cs → IsTrue (are_cases cs) → ps ≡ a_term u ∷ seconds a_term cs → TermShape t ps
   annotation_shape : (at : ℕ) (w : Tok) (u : Sexp Tok) (ns : Sexps Tok) → t ≡ list at (cons (atom w) (cons u ns))
-    → IsTrue (is_reserved ANNOTATION w) → NotEmpty ns → IsTrue (are_notes ns) → ps ≡ a_term u ∷ pattern_terms ns → TermShape t ps
+      → IsTrue (is_reserved ANNOTATION w) → NotEmpty ns → IsTrue (are_notes ns) → ps ≡ a_term u ∷ pattern_terms ns → TermShape t ps
 
 -- the tree has the shape of a production, with these sorts and terms in it
 abbrev pub HasShape : Position → List Position → Type 0
