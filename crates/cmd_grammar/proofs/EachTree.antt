@@ -25,7 +25,7 @@ pub seen_at : {A : Type 0} (f : Sexp Tok → A) (ts : Sexps Tok) (i : ℕ) (o : 
     → Some (f (whole p)) ≡ slice_get (map f (each_tree ts)) i
 seen_at f ts i o p e k = ap (option_map f) (found ts i o p e k) ∙ sym (slice_get-map f (each_tree ts) i)
 
-both_true : (a b : Bool) → IsTrue (a && b) → IsTrue a × IsTrue b
+pub both_true : (a b : Bool) → IsTrue (a && b) → IsTrue a × IsTrue b
 both_true true b h = (refl, h)
 both_true false b h = absurd (cc)
 

@@ -1,2 +1,11 @@
+pub mod DoBlocks
 pub mod EachTree
+pub mod Fields
+pub mod LiteralTerms
 pub mod ReadAll
+pub mod FormsHave
+pub mod FormsFound
+pub mod EachAgrees
+pub mod DeclarationsAgree
+pub mod CommandsAgree
+pub mod GrammarAgrees

@@ -2,6 +2,7 @@
 use Rattle.std.specs.Prelude.{ℕ}
 use Rattle.lex_core.specs.declared.token.Tok.{Tok}
 use Rattle.term_grammar.specs.Syntax.{SortedSymbol, symbol, unqualified, Term, qualified_term, application, no_terms, with_term}
+use Rattle.term_grammar.specs.declared.binder.RawVariable.{RawVariable}
 use Rattle.cmd_grammar.specs.declared.literal.RawLiteralKind.{RawLiteralKind}
 use Rattle.cmd_grammar.specs.declared.literal.RawLiteralKind.TheVariants as literal
 use Rattle.cmd_grammar.specs.declared.sort_dec.RawSortDec.{RawSortDec}
@@ -45,6 +46,9 @@ data_dec_kind (parametric_data at ps cs) = datatype.Parametric ps cs
 
 abbrev pub sort_dec_seen : RawSortDec → SortDec
 sort_dec_seen d = record { at = d.at; name = d.name; arity = d.arity }
+
+abbrev pub variable_seen : RawVariable → SortedSymbol
+variable_seen v = record { at = v.at; name = v.name; sort = v.sort }
 
 abbrev pub selector_seen : RawSelector → SortedSymbol
 selector_seen s = record { at = s.at; name = s.name; sort = s.sort }

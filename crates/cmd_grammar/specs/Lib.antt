@@ -7,5 +7,7 @@ pub mod DeclarationViews
 pub mod CommandForms
 pub mod CommandViews
 pub mod CommandReads
+pub mod FormGrammar
+pub mod Grammar
 pub mod CommandAnswers
 pub mod WordNumbers

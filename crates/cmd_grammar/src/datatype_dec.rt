@@ -4,14 +4,14 @@ ghost use Rattle.sexp_core.specs.Parts.{whole};
 ghost use Rattle.term_grammar.specs.Reads.{made_of};
 ghost use Rattle.cmd_grammar.specs.TreeLists.{SplitsBy, read_all};
 ghost use Rattle.cmd_grammar.specs.DeclarationReads.{read_constructor_dec as constructor_reading, read_data_dec as data_reading};
-ghost use Rattle.cmd_grammar.specs.DeclarationViews.{constructor_dec_seen, data_dec_at, data_dec_kind, selector_seen};
+ghost use Rattle.cmd_grammar.specs.DeclarationViews.{constructor_dec_seen, data_dec_at, data_dec_kind, selector_seen, variable_seen};
 
 use crate::declaration_form::{constructor_dec_parts, parametric_parts};
 use crate::tree_list::nth;
 use lex_core::Tok;
 use sexp_core::{Part, Trees};
 use std::marker::Model;
-use term_grammar::{RawSort, RawSymbols, RawVariables, read_variables};
+use term_grammar::{RawSort, RawSymbols, RawVariable, RawVariables, read_variables};
 
 /// A selector: `( symbol sort )` (SMT-LIB 2.6, section 3.9).
 #[derive(Drop)]
@@ -203,21 +203,45 @@ impl<'t> RawSelector<'t> {
     }
 }
 
+// The selector of a field, which has the form of a variable.
+fn selector<'t>(field: RawVariable<'t>) -> RawSelector<'t>
+    ensures { selector_seen result ≡ variable_seen field.entry }
+{
+    let at = field.at();
+    RawSelector {
+        at,
+        name: field.name,
+        sort: field.sort,
+    }
+}
+
 impl<'t> RawSelectors<'t> {
+    /// How many selectors there are. It walks over them.
+    #[tactic(auto, using(crate::proofs::Fields::fields))]
+    pub fn len(&self) -> usize
+        ensures { result ≡ length self.now }
+    {
+        self.fields.len()
+    }
+
+    /// The selector at an index, from 0. It answers `None` exactly past the end. It walks over those before it.
+    pub fn get(&self, i: usize) -> Option<RawSelector<'t>>
+        ensures { option_map selector_seen result ≡ slice_get self.now i }
+    {
+        let Some(field) = self.fields.get(i) else {
+            return None;
+        };
+        Some(selector(field))
+    }
+
     /// The first selector, and the others. It answers `None` exactly where none is left.
     pub fn split(&self) -> Option<(RawSelector<'t>, RawSelectors<'t>)>
         ensures { SplitsBy selector_seen self.now result }
     {
-        let Some((first, fields)) = self.fields.split() else {
+        let Some((field, fields)) = self.fields.split() else {
             return None;
         };
-        let at = first.at();
-        let selector = RawSelector {
-            at,
-            name: first.name,
-            sort: first.sort,
-        };
-        Some((selector, RawSelectors { fields }))
+        Some((selector(field), RawSelectors { fields }))
     }
 }
 

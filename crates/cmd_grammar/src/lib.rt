@@ -19,9 +19,11 @@ pub use datatype_dec::{
     RawConDec, RawConDecs, RawDataDec, RawDataDecKind, RawDataDecs, RawSelector, RawSelectors,
 };
 pub use fun_dec::{RawFunDec, RawFunDecs, RawFunDef};
-pub use laws::word_laws;
+pub use laws::{grammar_laws, word_laws};
 pub use literal::{RawLiteral, RawLiteralKind, RawLiterals};
 pub use sort_dec::{RawSortDec, RawSortDecs};
 
+#[cfg(test)]
+mod kind_tests;
 #[cfg(test)]
 mod tests;

@@ -1,13 +1,14 @@
 //! Literals, as views of their trees.
 ghost use Rattle.std.specs.Prelude.{◌≡◌, length, slice_get};
 ghost use Rattle.cmd_grammar.specs.TreeLists.{SplitsBy};
-ghost use Rattle.cmd_grammar.specs.DeclarationViews.{literal_at, literal_kind};
+ghost use Rattle.cmd_grammar.specs.DeclarationViews.{literal_at, literal_kind, literal_term};
 
 use crate::declaration_form::negated_parts;
 use crate::tree_list::nth;
 use lex_core::Tok;
 use sexp_core::{Part, Trees};
 use std::marker::Model;
+use term_grammar::{RawTerm, read_term};
 
 /// A literal of `check-sat-assuming` (SMT-LIB 2.6, section 3.9): a symbol or its negation.
 #[derive(Drop)]
@@ -88,6 +89,17 @@ impl<'t> RawLiteral<'t> {
                 RawLiteralKind::Not(symbol)
             }
         }
+    }
+
+    /// The literal read as a term: the symbol, or the application of `not` to it.
+    #[tactic(auto, using(crate::proofs::LiteralTerms::literals))]
+    pub fn term(&self) -> RawTerm<'t>
+        ensures { result ≡ literal_term self.now }
+    {
+        let Ok(term) = read_term(self.tree.reborrow()) else {
+            unreachable!();
+        };
+        term
     }
 }
 

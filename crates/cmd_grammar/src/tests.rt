@@ -222,7 +222,7 @@ fn last_tree(builder: &mut Builder, toks: &[Tok]) -> Option<Tree>
     last
 }
 
-fn tree_of(alloc: Global, names: &mut Names, text: &[u8]) -> Option<Tree>
+pub(crate) fn tree_of(alloc: Global, names: &mut Names, text: &[u8]) -> Option<Tree>
     requires short { length text.now < 2 ^ 30 }
     requires few { length names.old + length text.now < 2 ^ 31 }
 {

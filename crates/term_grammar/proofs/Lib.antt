@@ -8,3 +8,10 @@ pub mod TermsSeen
 pub mod Bytes
 pub mod QualifiedSeen
 pub mod Lengths
+pub mod TokenKinds
+pub mod PartsFound
+pub mod GrammarComplete
+pub mod GrammarSound
+pub mod Shapes
+pub mod FirstFaults
+pub mod GrammarLaws
