@@ -1,0 +1,2 @@
+pub mod NumeralDigits
+pub mod SortLaws
