@@ -1,2 +1,3 @@
 pub mod NumeralDigits
 pub mod SortLaws
+pub mod CapturedSymbols

@@ -11,7 +11,7 @@ use Rattle.term_grammar.specs.Syntax.{Identifier, symbol, indexed, named_sort, a
 use Rattle.sort_store.specs.Tree.{Sort, sort, sorts, node_count}
 use Rattle.scope_stack.specs.Environment.{Environment}
 use Rattle.typer.specs.SortSymbols.{Meaning, symbol_of, definition_of, meaning}
-use Rattle.typer.specs.SortRules.{only_numeral, judge_meaning, judge_identifier, identifier_at, judge_sort, judge_sorts, SortOf, SortFault}
+use Rattle.typer.specs.SortRules.{only_numeral, judge_meaning, judge_identifier, judge_indexed, identifier_at, judge_sort, judge_sorts, SortOf, SortFault}
 
 at_most : (m n : ℕ) → (m ≤ n) ⊎ (m ≤ n → ⊥)
 at_most zero n = inl (omega arith)
@@ -25,6 +25,11 @@ same_number (suc m) zero = inr (λ h. omega (arith, h))
 same_number (suc m) (suc n) = elim (same_number m n) [ inl h ↦ inl (ap suc h) | inr differs ↦ inr (λ h. differs (omega (arith, h))) ]
 
 module _ (texts : List (List ℕ)) (scopes : Environment) (theories : Theories) (params : List ℕ) where
+  lawful-indexed : (t : Tok) (is : List Tok) (at : ℕ) (args : List Sort) → Lawful (judge_indexed texts theories at args t is)
+  lawful-indexed t is at args =
+    lawful-then _ _ (lawful-check _ _ _ (test_decided _)) (λ _. lawful-then _ _ (lawful-check _ _ _ (same_number _ _)) (λ _. lawful-then _ _ (lawful-find _ _ _ (option_decided (only_numeral is)))
+    (λ i. lawful-then _ _ (lawful-check _ _ _ (at_most _ _)) (λ _. lawful-then _ _ (lawful-check _ _ _ (at_most _ _)) (λ _. lawful-done _)))))
+
   lawful-meaning : (m : Meaning) (at : ℕ) (args : List Sort) → Lawful (judge_meaning texts params at args m)
   lawful-meaning (symbol_of h arity) at args =
     lawful-then _ _ (lawful-check _ _ _ (same_number _ _)) (λ _. lawful-then _ _ (lawful-check _ _ _ (at_most _ _)) (λ _. lawful-done _))
@@ -34,9 +39,7 @@ module _ (texts : List (List ℕ)) (scopes : Environment) (theories : Theories) 
   lawful-identifier : (i : Identifier) (at : ℕ) (args : List Sort) → Lawful (judge_identifier texts scopes theories params at args i)
   lawful-identifier (symbol t) at args =
     lawful-then _ _ (lawful-find _ _ _ (option_decided (meaning texts scopes theories params t.name))) (λ m. lawful-meaning m at args)
-  lawful-identifier (indexed _ t is) at args =
-    lawful-then _ _ (lawful-check _ _ _ (test_decided _)) (λ _. lawful-then _ _ (lawful-check _ _ _ (same_number _ _)) (λ _. lawful-then _ _ (lawful-find _ _ _ (option_decided (only_numeral is)))
-    (λ i. lawful-then _ _ (lawful-check _ _ _ (at_most _ _)) (λ _. lawful-then _ _ (lawful-check _ _ _ (at_most _ _)) (λ _. lawful-done _)))))
+  lawful-identifier (indexed _ t is) at args = lawful-indexed t is at args
 
   mutual
     pub lawful-sort : (s : syntax.Sort) → Lawful (judge_sort texts scopes theories params s)

@@ -1,3 +1,6 @@
+pub mod Names
 pub mod Numerals
 pub mod SortSymbols
 pub mod SortRules
+pub mod Answers
+pub mod Ready

@@ -46,30 +46,41 @@ only_numeral (t ∷ (u ∷ us)) = None
 abbrev pub index_value : List (List ℕ) → Tok → ℕ
 index_value texts t = numeral_value (slice_index_or texts t.name [])
 
--- what a symbol stands for, with arguments that are judged already, in a sort that begins at a byte
-abbrev pub judge_meaning : List (List ℕ) → List ℕ → ℕ → List Sort → Meaning → Judging Sort
-judge_meaning texts params at args (symbol_of h arity) = do
+-- a sort symbol of some arity with arguments that are judged already, in a sort that begins at a byte
+abbrev pub judge_symbol : ℕ → List Sort → Head → ℕ → Judging Sort
+judge_symbol at args h arity = do
   _ ← check (length args ≡ arity) WrongSortArity at
   _ ← check (node_count (sort h (sorts args)) ≤ 1000) SortTooLarge at
   done (sort h (sorts args))
-judge_meaning texts params at args (definition_of arity body) = do
+
+-- a defined sort with its arguments put in its body
+abbrev pub judge_definition : List (List ℕ) → List ℕ → ℕ → List Sort → ℕ → Sort → Judging Sort
+judge_definition texts params at args arity body = do
   _ ← check (length args ≡ arity) WrongSortArity at
   _ ← check (node_count (inst args body) ≤ 1000) SortTooLarge at
   _ ← check (IsTrue (not (has_captured texts params (inst args body)))) CapturedSortParameter at
   done (inst args body)
 
--- an identifier with arguments that are judged already
-abbrev pub judge_identifier : List (List ℕ) → Environment → Theories → List ℕ → ℕ → List Sort → Identifier → Judging Sort
-judge_identifier texts scopes theories params at args (symbol t) = do
-  m ← find (λ m. meaning texts scopes theories params t.name ≡ Some m) UnknownSort at
-  judge_meaning texts params at args m
-judge_identifier texts scopes theories params at args (indexed _ t is) = do
+abbrev pub judge_meaning : List (List ℕ) → List ℕ → ℕ → List Sort → Meaning → Judging Sort
+judge_meaning texts params at args (symbol_of h arity) = judge_symbol at args h arity
+judge_meaning texts params at args (definition_of arity body) = judge_definition texts params at args arity body
+
+-- ( _ symbol index+ ) with arguments that are judged already: only (_ BitVec m) is a sort, without arguments
+abbrev pub judge_indexed : List (List ℕ) → Theories → ℕ → List Sort → Tok → List Tok → Judging Sort
+judge_indexed texts theories at args t is = do
   _ ← check (IsTrue (is_bit_vector texts theories t.name)) UnknownSort at
   _ ← check (length args ≡ 0) WrongSortArity at
   i ← find (λ i. only_numeral is ≡ Some i) WrongIndex at
   _ ← check (index_value texts i < 2 ^ 32) NumberTooLarge at
   _ ← check (1 ≤ index_value texts i) WrongIndex at
   done (sort (head.BitVec (index_value texts i)) no_sorts)
+
+-- an identifier with arguments that are judged already
+abbrev pub judge_identifier : List (List ℕ) → Environment → Theories → List ℕ → ℕ → List Sort → Identifier → Judging Sort
+judge_identifier texts scopes theories params at args (symbol t) = do
+  m ← find (λ m. meaning texts scopes theories params t.name ≡ Some m) UnknownSort at
+  judge_meaning texts params at args m
+judge_identifier texts scopes theories params at args (indexed _ t is) = judge_indexed texts theories at args t is
 
 -- the byte where an identifier begins
 abbrev pub identifier_at : Identifier → ℕ

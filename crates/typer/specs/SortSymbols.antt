@@ -19,7 +19,7 @@ pub data Meaning : Type 0 where
 
 -- the name has the text
 abbrev pub is_text : List (List ℕ) → List ℕ → ℕ → Bool
-is_text texts text name = bytes_eq text (slice_index_or texts name [])
+is_text texts text name = bytes_eq (slice_index_or texts name []) text
 
 -- a parameter of the command is the one at its place, and takes no argument
 abbrev pub parameter : List ℕ → ℕ → Option Meaning

@@ -1,8 +1,15 @@
 //! The sorting rules: which sort a raw sort stands for, or the first rule that it does not meet.
 #![tactic(auto)]
 
+mod apply;
+mod error;
 mod laws;
 mod numeral;
+mod symbol;
+mod world;
 
+pub use error::TyError;
 pub use laws::sort_laws;
 pub use numeral::numeral_value;
+pub use symbol::is_theory_sort;
+pub use world::World;
