@@ -2,9 +2,7 @@
 use Rattle.std.proofs.Common.{◌≡◌, ℕ, ◌+◌, ◌≤◌, Bool, true, false, not, ◌&&◌, ◌==◌, if◌then◌else◌, Option, Some, None, option_and_then, refl, arith}
 use Rattle.std.proofs.lemmas.Bool.{eqb-true}
 use Rattle.lex_core.specs.declared.token.Tok.{Tok}
-use Rattle.sexp_core.specs.Sexp.{atom, list, Sexps, nil, cons, count_of}
-use Rattle.sexp_core.specs.declared.parts.Part.{Part}
-use Rattle.sexp_core.specs.declared.parts.Part.TheVariants as part
+use Rattle.sexp_core.specs.Sexp.{Sexp, atom, list, Sexps, nil, cons, count_of}
 use Rattle.term_grammar.specs.declared.words.TheConstants.{NAMED, PATTERN}
 use Rattle.term_grammar.specs.declared.term_form.NoteForm.{NoteForm}
 use Rattle.term_grammar.specs.declared.term_form.NoteForm.TheVariants as note
@@ -26,13 +24,13 @@ abbrev pub alone : Tok → Bool → Bool → Bool → Option (NoteForm × Sexps 
 alone k n p w = if n then None else if p then None else option_and_then (λ _. Some (note.Attribute k None, nil)) (guard w)
 
 -- a token that is a value or not
-abbrev pub token_value : Tok → Sexps Tok → Bool → Option Part × Sexps Tok
-token_value v ts q = if q then (Some (part.Atom v), ts) else (None, cons (atom v) ts)
+abbrev pub token_value : Tok → Sexps Tok → Bool → Option (Sexp Tok) × Sexps Tok
+token_value v ts q = if q then (Some (atom v), ts) else (None, cons (atom v) ts)
 
 -- what a keyword and a token after it make, by the tests of them
 abbrev pub then_token : Tok → Tok → Sexps Tok → Bool → Bool → Bool → Bool → Bool → Option (NoteForm × Sexps Tok)
 then_token k v ts n p w q s =
-    if n then option_and_then (λ (x : Tok × Sexps Tok). Some (note.Named k x.0, x.1)) (if s then Some (v, ts) else None)
+    if n then option_and_then (λ (x : Tok × Sexps Tok). Some (note.Named x.0, x.1)) (if s then Some (v, ts) else None)
     else if p then None
     else option_and_then (λ _. Some (note.Attribute k (token_value v ts q).0, (token_value v ts q).1)) (guard w)
 
@@ -40,8 +38,8 @@ then_token k v ts n p w q s =
 abbrev pub then_list : Tok → ℕ → Sexps Tok → Sexps Tok → Bool → Bool → Bool → Bool → Option (NoteForm × Sexps Tok)
 then_list k at us ts n p w e =
     if n then None
-    else if p then option_and_then (λ _. Some (note.Pattern k us, ts)) (guard (not e))
-    else option_and_then (λ _. Some (note.Attribute k (Some (part.List at us)), ts)) (guard w)
+    else if p then option_and_then (λ _. Some (note.Pattern us, ts)) (guard (not e))
+    else option_and_then (λ _. Some (note.Attribute k (Some (list at us)), ts)) (guard w)
 
 alone_is : (k : Tok) (n p w : Bool) → (w && (not n && not p)) ≡ notes_after (alone k n p w)
 alone_is k true p true = refl

@@ -25,7 +25,7 @@ use Rattle.term_grammar.proofs.FormsRead.{whole-part_of, judged-read_sort, judge
 abbrev pub sort_size : Result SortForm ℕ → ℕ
 sort_size (Err e) = 0
 sort_size (Ok sort.Identifier) = 0
-sort_size (Ok (sort.Applied at i ss)) = size_all ss + 1
+sort_size (Ok (sort.Applied i ss)) = size_all ss + 1
 
 applied_size : (at : ℕ) (h : Part) (ts : Sexps Tok) (q i e : Bool)
     → sort_size (if q then Ok sort.Identifier else applied_form at (option_and_then (λ _. option_and_then (λ _. Some (h, ts)) (guard (not e))) (guard i))) ≤ size_all ts + 1
@@ -50,12 +50,12 @@ abbrev pub form_size : Result TermForm ℕ → ℕ
 form_size (Err e) = 0
 form_size (Ok (term.Constant c)) = 0
 form_size (Ok term.Qualified) = 0
-form_size (Ok (term.Application at h ts)) = size_all ts + 1
-form_size (Ok (term.Let at bs u)) = size_all bs + size (whole u) + 1
-form_size (Ok (term.Forall at vs u)) = size (whole u) + 1
-form_size (Ok (term.Exists at vs u)) = size (whole u) + 1
-form_size (Ok (term.Match at u cs)) = size (whole u) + size_all cs + 1
-form_size (Ok (term.Annotated at u ns)) = size (whole u) + size_all ns + 1
+form_size (Ok (term.Application h ts)) = size_all ts + 1
+form_size (Ok (term.Let bs u)) = size_all bs + size (whole u) + 1
+form_size (Ok (term.Forall vs u)) = size (whole u) + 1
+form_size (Ok (term.Exists vs u)) = size (whole u) + 1
+form_size (Ok (term.Match u cs)) = size (whole u) + size_all cs + 1
+form_size (Ok (term.Annotated u ns)) = size (whole u) + size_all ns + 1
 
 guarded : {A : Type 0} (e n : Bool) (p : A) (f : A → Option TermForm) (at k : ℕ) → form_size (or_at at (f p)) ≤ k
     → form_size (or_at at (option_and_then f (option_and_then (λ _. option_and_then (λ _. Some p) (guard n)) (guard (not e))))) ≤ k
@@ -66,44 +66,44 @@ guarded false false p f at k h = omega arith
 part_size : (u : Sexp Tok) → size (whole (part_of u)) ≡ size u
 part_size u = ap size (whole-part_of u)
 
-let_size : (at : ℕ) (ts : Sexps Tok) → form_size (or_at at (word_form word.Let at ts)) ≤ size_all ts + 1
+let_size : (at : ℕ) (ts : Sexps Tok) → form_size (or_at at (word_form word.Let ts)) ≤ size_all ts + 1
 let_size at nil = omega arith
 let_size at (cons (atom x) ts) = omega arith
 let_size at (cons (list b bs) nil) = omega arith
 let_size at (cons (list b bs) (cons u (cons v vs))) = omega arith
 let_size at (cons (list b bs) (cons u nil)) =
-    guarded (is_empty bs) (are_named bs) (bs, part_of u) (λ p. Some (term.Let at p.0 p.1)) at _ (omega (arith, part_size u))
+    guarded (is_empty bs) (are_named bs) (bs, part_of u) (λ p. Some (term.Let p.0 p.1)) at _ (omega (arith, part_size u))
 
-forall_size : (at : ℕ) (ts : Sexps Tok) → form_size (or_at at (word_form word.Forall at ts)) ≤ size_all ts + 1
+forall_size : (at : ℕ) (ts : Sexps Tok) → form_size (or_at at (word_form word.Forall ts)) ≤ size_all ts + 1
 forall_size at nil = omega arith
 forall_size at (cons (atom x) ts) = omega arith
 forall_size at (cons (list b bs) nil) = omega arith
 forall_size at (cons (list b bs) (cons u (cons v vs))) = omega arith
 forall_size at (cons (list b bs) (cons u nil)) =
-    guarded (is_empty bs) (are_named bs) (bs, part_of u) (λ p. Some (term.Forall at p.0 p.1)) at _ (omega (arith, part_size u))
+    guarded (is_empty bs) (are_named bs) (bs, part_of u) (λ p. Some (term.Forall p.0 p.1)) at _ (omega (arith, part_size u))
 
-exists_size : (at : ℕ) (ts : Sexps Tok) → form_size (or_at at (word_form word.Exists at ts)) ≤ size_all ts + 1
+exists_size : (at : ℕ) (ts : Sexps Tok) → form_size (or_at at (word_form word.Exists ts)) ≤ size_all ts + 1
 exists_size at nil = omega arith
 exists_size at (cons (atom x) ts) = omega arith
 exists_size at (cons (list b bs) nil) = omega arith
 exists_size at (cons (list b bs) (cons u (cons v vs))) = omega arith
 exists_size at (cons (list b bs) (cons u nil)) =
-    guarded (is_empty bs) (are_named bs) (bs, part_of u) (λ p. Some (term.Exists at p.0 p.1)) at _ (omega (arith, part_size u))
+    guarded (is_empty bs) (are_named bs) (bs, part_of u) (λ p. Some (term.Exists p.0 p.1)) at _ (omega (arith, part_size u))
 
-match_size : (at : ℕ) (ts : Sexps Tok) → form_size (or_at at (word_form word.Match at ts)) ≤ size_all ts + 1
+match_size : (at : ℕ) (ts : Sexps Tok) → form_size (or_at at (word_form word.Match ts)) ≤ size_all ts + 1
 match_size at nil = omega arith
 match_size at (cons u nil) = omega arith
 match_size at (cons u (cons (atom x) ts)) = omega arith
 match_size at (cons u (cons (list b cs) (cons v vs))) = omega arith
 match_size at (cons u (cons (list b cs) nil)) =
-    guarded (is_empty cs) (are_cases cs) (part_of u, cs) (λ p. Some (term.Match at p.0 p.1)) at _ (omega (arith, part_size u))
+    guarded (is_empty cs) (are_cases cs) (part_of u, cs) (λ p. Some (term.Match p.0 p.1)) at _ (omega (arith, part_size u))
 
-annotation_size : (at : ℕ) (ts : Sexps Tok) → form_size (or_at at (word_form word.Annotation at ts)) ≤ size_all ts + 1
+annotation_size : (at : ℕ) (ts : Sexps Tok) → form_size (or_at at (word_form word.Annotation ts)) ≤ size_all ts + 1
 annotation_size at nil = omega arith
 annotation_size at (cons u ns) =
-    guarded (is_empty ns) (are_notes ns) (part_of u, ns) (λ p. Some (term.Annotated at p.0 p.1)) at _ (omega (arith, part_size u))
+    guarded (is_empty ns) (are_notes ns) (part_of u, ns) (λ p. Some (term.Annotated p.0 p.1)) at _ (omega (arith, part_size u))
 
-word_size : (at : ℕ) (ts : Sexps Tok) (w : TermWord) → form_size (or_at at (word_form w at ts)) ≤ size_all ts + 1
+word_size : (at : ℕ) (ts : Sexps Tok) (w : TermWord) → form_size (or_at at (word_form w ts)) ≤ size_all ts + 1
 word_size at ts word.Let = let_size at ts
 word_size at ts word.Forall = forall_size at ts
 word_size at ts word.Exists = exists_size at ts
@@ -111,12 +111,12 @@ word_size at ts word.Match = match_size at ts
 word_size at ts word.Annotation = annotation_size at ts
 word_size at ts word.Other = omega arith
 
-application_size : (at : ℕ) (h : Part) (ts : Sexps Tok) → form_size (or_at at (application_form at h ts)) ≤ size_all ts + 1
+application_size : (at : ℕ) (h : Part) (ts : Sexps Tok) → form_size (or_at at (application_form h ts)) ≤ size_all ts + 1
 application_size at h nil = omega arith
 application_size at h (cons t ts) = omega arith
 
 list_size : (at : ℕ) (h : Part) (ts : Sexps Tok) (q i : Bool)
-    → form_size (if q then Ok term.Qualified else or_at at (if i then application_form at h ts else word_form (word_of (whole h)) at ts)) ≤ size_all ts + 1
+    → form_size (if q then Ok term.Qualified else or_at at (if i then application_form h ts else word_form (word_of (whole h)) ts)) ≤ size_all ts + 1
 list_size at h ts true i = omega arith
 list_size at h ts false true = application_size at h ts
 list_size at h ts false false = word_size at ts (word_of (whole h))
@@ -165,8 +165,8 @@ case_parts-size (cons (list c vs) r) = omega (arith, case_size (part.List c vs) 
 -- the terms of a pattern and the trees after an attribute
 abbrev pub note_size : Option (NoteForm × Sexps Tok) → ℕ
 note_size None = 0
-note_size (Some (note.Named k n, ts)) = size_all ts + 1
-note_size (Some (note.Pattern k us, ts)) = size_all us + size_all ts + 1
+note_size (Some (note.Named n, ts)) = size_all ts + 1
+note_size (Some (note.Pattern us, ts)) = size_all us + size_all ts + 1
 note_size (Some (note.Attribute k v, ts)) = size_all ts + 1
 
 alone_size : (k : Tok) (n p w : Bool) → note_size (alone k n p w) ≤ 1

@@ -88,14 +88,14 @@ judged-case_list b us ts = ap judged (read_cases-first b us ts) ∙ cases_judged
 
 abbrev pub notes_judged_by : Option (NoteForm × Sexps Tok) → Result (Unit {0}) ℕ
 notes_judged_by None = Ok tt
-notes_judged_by (Some (note.Named k n, ts)) = judged (read_notes ts)
-notes_judged_by (Some (note.Pattern k us, ts)) = both (judged (read_terms us)) (judged (read_notes ts))
+notes_judged_by (Some (note.Named n, ts)) = judged (read_notes ts)
+notes_judged_by (Some (note.Pattern us, ts)) = both (judged (read_terms us)) (judged (read_notes ts))
 notes_judged_by (Some (note.Attribute k v, ts)) = judged (read_notes ts)
 
 notes_judged : (o : Option (NoteForm × Sexps Tok)) → judged (notes_by o) ≡ notes_judged_by o
 notes_judged None = refl
-notes_judged (Some (note.Named k n, ts)) = judged-made_of _ _
-notes_judged (Some (note.Pattern k us, ts)) = judged-made_of_two _ _ _
+notes_judged (Some (note.Named n, ts)) = judged-made_of _ _
+notes_judged (Some (note.Pattern us, ts)) = judged-made_of_two _ _ _
 notes_judged (Some (note.Attribute k v, ts)) = judged-made_of _ _
 
 pub judged-notes : (ts : Sexps Tok) → judged (read_notes ts) ≡ notes_judged_by (note_parts ts)

@@ -5,3 +5,5 @@ pub mod FormSizes
 pub mod JudgedLists
 pub mod SortsSeen
 pub mod TermsSeen
+pub mod Bytes
+pub mod QualifiedSeen

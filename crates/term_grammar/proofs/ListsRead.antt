@@ -1,5 +1,5 @@
 -- A list of bindings, variables, cases or attributes reads as its first tree and the others do.
-use Rattle.std.proofs.Common.{◌≡◌, ℕ, Bool, true, false, not, ◌&&◌, if◌then◌else◌, List, [], Option, Some, None, option_map, option_and_then, Result, Ok, refl, ap, sym}
+use Rattle.std.proofs.Common.{◌≡◌, ℕ, Bool, true, false, not, ◌&&◌, if◌then◌else◌, List, [], Option, Some, None, option_and_then, Result, Ok, refl, ap, sym}
 use Rattle.lex_core.specs.declared.token.Tok.{Tok}
 use Rattle.sexp_core.specs.Sexp.{Sexp, atom, list, Sexps, nil, cons}
 use Rattle.sexp_core.specs.Parts.{whole}
@@ -10,9 +10,9 @@ use Rattle.term_grammar.specs.declared.term_form.NoteForm.{NoteForm}
 use Rattle.term_grammar.specs.declared.term_form.NoteForm.TheVariants as note
 use Rattle.term_grammar.specs.Words.{is_symbol, is_keyword, is_key, is_value_token}
 use Rattle.term_grammar.specs.FirstParts.{any_first, is_empty, guard}
-use Rattle.term_grammar.specs.Syntax.{SortedSymbol, Bindings, no_bindings, with_binding, Cases, no_cases, with_case, Notes, no_notes, with_named, with_pattern, with_attribute}
+use Rattle.term_grammar.specs.Syntax.{SortedSymbol, Bindings, no_bindings, with_binding, Cases, no_cases, with_case, Notes, no_notes}
 use Rattle.term_grammar.specs.TermForms.{named_parts, is_pattern, case_parts, note_parts}
-use Rattle.term_grammar.specs.Reads.{made_of, made_of_two, pattern_of, read_sort, read_sorted, with_sorted, read_term, read_terms, read_bindings, read_cases, read_notes}
+use Rattle.term_grammar.specs.Reads.{made_of, made_of_two, pattern_of, read_sort, read_sorted, with_sorted, read_term, read_terms, read_bindings, read_cases, read_notes, with_named, with_pattern, with_attribute}
 use Rattle.term_grammar.proofs.AttributeLists.{alone, then_token, then_list, one_key}
 use Rattle.term_grammar.proofs.FormsRead.{whole-part_of}
 
@@ -106,9 +106,9 @@ read_cases-first b (cons (list c vs) (cons t nil)) ts = case_pair b (part.List c
 
 abbrev pub notes_by : Option (NoteForm × Sexps Tok) → Result Notes ℕ
 notes_by None = Ok no_notes
-notes_by (Some (note.Named k n, ts)) = made_of (with_named k n) (read_notes ts)
-notes_by (Some (note.Pattern k us, ts)) = made_of_two (with_pattern k) (read_terms us) (read_notes ts)
-notes_by (Some (note.Attribute k v, ts)) = made_of (with_attribute k (option_map whole v)) (read_notes ts)
+notes_by (Some (note.Named n, ts)) = made_of (with_named n) (read_notes ts)
+notes_by (Some (note.Pattern us, ts)) = made_of_two with_pattern (read_terms us) (read_notes ts)
+notes_by (Some (note.Attribute k v, ts)) = made_of (with_attribute k v) (read_notes ts)
 
 notes_alone : (k : Tok) (n p w : Bool)
     → (if w && (not n && not p) then Ok (with_attribute k None no_notes) else Ok no_notes) ≡ notes_by (alone k n p w)
@@ -121,7 +121,7 @@ notes_alone k false false true = refl
 notes_alone k false false false = refl
 
 notes_token : (k v : Tok) (ts : Sexps Tok) (n p w q s : Bool)
-    → (if n then (if s then made_of (with_named k v) (read_notes ts) else Ok no_notes)
+    → (if n then (if s then made_of (with_named v) (read_notes ts) else Ok no_notes)
     else if w && (not n && not p) then
     (if q then made_of (with_attribute k (Some (atom v))) (read_notes ts) else made_of (with_attribute k None) (read_notes (cons (atom v) ts)))
     else Ok no_notes)
@@ -135,7 +135,7 @@ notes_token k v ts false false true false s = refl
 notes_token k v ts false false false q s = refl
 
 notes_list : (k : Tok) (at : ℕ) (us ts : Sexps Tok) (n p w e : Bool) → (n ≡ true → p ≡ false)
-    → (if p then (if not e then made_of_two (with_pattern k) (read_terms us) (read_notes ts) else Ok no_notes)
+    → (if p then (if not e then made_of_two with_pattern (read_terms us) (read_notes ts) else Ok no_notes)
     else if w && (not n && not p) then made_of (with_attribute k (Some (list at us))) (read_notes ts)
     else Ok no_notes)
     ≡ notes_by (then_list k at us ts n p w e)

@@ -1,20 +1,18 @@
 -- What is known of a tree that reads as a sort or an identifier.
-use Rattle.std.proofs.Common.{◌≡◌, ℕ, Bool, true, false, not, if◌then◌else◌, Some, None, option_and_then, Result, Ok, Err, IsOk, is_ok, refl, ap, sym, ◌∙◌}
+use Rattle.std.proofs.Common.{◌≡◌, ℕ, Bool, true, false, if◌then◌else◌, Some, None, Result, Ok, Err, IsOk, is_ok, refl, ap, sym, ◌∙◌}
 use Rattle.std.specs.Result.{result_unwrap_or}
 use Rattle.lex_core.specs.declared.token.Tok.{Tok}
 use Rattle.sexp_core.specs.Sexp.{Sexp, atom, list, Sexps, nil, cons}
 use Rattle.sexp_core.specs.Parts.{whole}
 use Rattle.sexp_core.specs.declared.parts.Part.{Part}
-use Rattle.sexp_core.specs.declared.parts.Part.TheVariants as part
-use Rattle.term_grammar.specs.declared.form.SortForm.{SortForm}
 use Rattle.term_grammar.specs.declared.form.SortForm.TheVariants as form
 use Rattle.term_grammar.specs.Words.{is_symbol}
-use Rattle.term_grammar.specs.FirstParts.{token_first, symbol_first, is_empty, guard}
+use Rattle.term_grammar.specs.FirstParts.{token_first, symbol_first}
 use Rattle.term_grammar.specs.Syntax.{symbol, Sort, named_sort, applied_sort, no_sorts, with_sort}
-use Rattle.term_grammar.specs.Forms.{is_identifier, applied_form, sort_form}
+use Rattle.term_grammar.specs.Forms.{sort_form}
 use Rattle.term_grammar.specs.Reads.{made_of, made_of_two, no_token, byte_of, identifier_of, read_sort, read_sorts}
 use Rattle.term_grammar.specs.FormReading.{sort_by}
-use Rattle.term_grammar.specs.SortViews.{sort_of, sorts_of}
+use Rattle.term_grammar.specs.Readings.{sort_of, sorts_of}
 use Rattle.term_grammar.proofs.FormsRead.{read_sort-form}
 
 no_test : false ≡ true → ⊥
@@ -53,45 +51,19 @@ pub no_sorts_seen : sorts_of nil ≡ no_sorts
 unfolding read_sort
 no_sorts_seen = refl
 
--- the byte of a form, or another one
-abbrev pub form_byte : ℕ → Result SortForm ℕ → ℕ
-form_byte d (Err e) = d
-form_byte d (Ok form.Identifier) = d
-form_byte d (Ok (form.Applied at i ss)) = at
-
-applied_byte : (at : ℕ) (h : Part) (ts : Sexps Tok) (q i e : Bool)
-    → form_byte at (if q then Ok form.Identifier else applied_form at (option_and_then (λ _. option_and_then (λ _. Some (h, ts)) (guard (not e))) (guard i))) ≡ at
-applied_byte at h ts true i e = refl
-applied_byte at h ts false true true = refl
-applied_byte at h ts false true false = refl
-applied_byte at h ts false false e = refl
-
-atom_byte : (t : Tok) (q : Bool) → form_byte t.at (if q then Ok form.Identifier else Err t.at) ≡ t.at
-atom_byte t true = refl
-atom_byte t false = refl
-
-sort_form-byte : (t : Sexp Tok) → form_byte (byte_of t) (sort_form t) ≡ byte_of t
-sort_form-byte (atom t) = atom_byte t (is_identifier (atom t))
-sort_form-byte (list at nil) = refl
-sort_form-byte (list at (cons (atom w) ts)) =
-    applied_byte at (part.Atom w) ts (is_identifier (list at (cons (atom w) ts))) (is_identifier (atom w)) (is_empty ts)
-sort_form-byte (list at (cons (list b us) ts)) =
-    applied_byte at (part.List b us) ts (is_identifier (list at (cons (list b us) ts))) (is_identifier (list b us)) (is_empty ts)
-
 abbrev sort_or : Result Sort ℕ → Sort
 sort_or r = result_unwrap_or r (named_sort (symbol no_token))
 
 pub identifier_seen : (t : Sexp Tok) → sort_form t ≡ Ok form.Identifier → sort_of t ≡ named_sort (identifier_of t)
 identifier_seen t e = ap sort_or (read_sort-form t ∙ ap (sort_by t) e)
 
-pub applied_seen : (t : Sexp Tok) (at : ℕ) (i : Part) (ss : Sexps Tok) → sort_form t ≡ Ok (form.Applied at i ss) → IsOk (read_sort t)
+pub applied_seen : (t : Sexp Tok) (i : Part) (ss : Sexps Tok) → sort_form t ≡ Ok (form.Applied i ss) → IsOk (read_sort t)
     → IsOk (read_sorts ss) × (sort_of t ≡ applied_sort (byte_of t) (identifier_of (whole i)) (sorts_of ss))
-applied_seen t at i ss e h =
-    let r : read_sort t ≡ made_of (applied_sort at (identifier_of (whole i))) (read_sorts ss) = read_sort-form t ∙ ap (sort_by t) e in
-    let ok : IsOk (made_of (applied_sort at (identifier_of (whole i))) (read_sorts ss)) = sym (ap (λ (x : Result Sort ℕ). is_ok x) r) ∙ h in
-    let m = made_of_ok (applied_sort at (identifier_of (whole i))) (read_sorts ss) no_sorts (named_sort (symbol no_token)) ok in
-    let b : at ≡ byte_of t = sym (ap (form_byte (byte_of t)) e) ∙ sort_form-byte t in
-    (m.0, ap sort_or r ∙ m.1 ∙ ap (λ (x : ℕ). applied_sort x (identifier_of (whole i)) (sorts_of ss)) b)
+applied_seen t i ss e h =
+    let r : read_sort t ≡ made_of (applied_sort (byte_of t) (identifier_of (whole i))) (read_sorts ss) = read_sort-form t ∙ ap (sort_by t) e in
+    let ok : IsOk (made_of (applied_sort (byte_of t) (identifier_of (whole i))) (read_sorts ss)) = sym (ap (λ (x : Result Sort ℕ). is_ok x) r) ∙ h in
+    let m = made_of_ok (applied_sort (byte_of t) (identifier_of (whole i))) (read_sorts ss) no_sorts (named_sort (symbol no_token)) ok in
+    (m.0, ap sort_or r ∙ m.1)
 
 pub unformed : (t : Sexp Tok) (at : ℕ) → sort_form t ≡ Err at → IsOk (read_sort t) → ⊥
 unformed t at e h = no_test (sym (ap (λ (x : Result Sort ℕ). is_ok x) (read_sort-form t ∙ ap (sort_by t) e)) ∙ h)

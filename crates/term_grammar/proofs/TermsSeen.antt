@@ -1,5 +1,5 @@
 -- What is known of a tree that reads as a term.
-use Rattle.std.proofs.Common.{◌≡◌, ℕ, Bool, true, false, List, [], if◌then◌else◌, Option, Some, None, option_map, option_and_then, Result, Ok, Err, IsOk, IsTrue, is_ok, refl, ap, sym, subst, ◌∙◌}
+use Rattle.std.proofs.Common.{◌≡◌, ℕ, Bool, true, false, List, [], Option, Some, None, option_and_then, Result, Ok, Err, IsOk, IsTrue, is_ok, refl, ap, sym, subst, ◌∙◌}
 use Rattle.std.specs.Result.{result_unwrap_or}
 use Rattle.lex_core.specs.declared.token.Tok.{Tok}
 use Rattle.sexp_core.specs.Sexp.{Sexp, atom, list, Sexps, nil, cons}
@@ -8,18 +8,15 @@ use Rattle.sexp_core.specs.declared.parts.Part.{Part}
 use Rattle.sexp_core.specs.declared.parts.Part.TheVariants as part
 use Rattle.term_grammar.specs.declared.term_form.TermForm.{TermForm}
 use Rattle.term_grammar.specs.declared.term_form.TermForm.TheVariants as form
-use Rattle.term_grammar.specs.Syntax.{symbol, named_sort, unqualified, SortedSymbol, Term, constant, qualified_term, application, let_in, for_all, there_exists, match_with, annotated, no_terms, with_term, Bindings, no_bindings, with_binding, Cases, no_cases, with_case, Notes, no_notes, with_named, with_pattern, with_attribute}
-use Rattle.term_grammar.specs.declared.words.TermWord.{TermWord}
-use Rattle.term_grammar.specs.declared.words.TermWord.TheVariants as word
+use Rattle.term_grammar.specs.Syntax.{symbol, named_sort, unqualified, SortedSymbol, Term, constant, qualified_term, application, let_in, for_all, there_exists, match_with, annotated, no_terms, with_term, Bindings, no_bindings, with_binding, Cases, no_cases, with_case, Notes, no_notes, with_note}
 use Rattle.term_grammar.specs.declared.term_form.NoteForm.{NoteForm}
 use Rattle.term_grammar.specs.declared.term_form.NoteForm.TheVariants as note
-use Rattle.term_grammar.specs.Words.{is_constant}
 use Rattle.term_grammar.specs.FirstParts.{any_first, is_empty, guard}
-use Rattle.term_grammar.specs.TermForms.{named_parts, is_pattern, case_parts, note_parts, is_qualified, binder_parts, match_parts, annotation_parts, word_of, word_form, application_form, or_at, term_form}
-use Rattle.term_grammar.specs.Reads.{made_of, made_of_two, no_token, pattern_of, with_sorted, read_sort, read_qualified, read_sorted, read_term, read_terms, read_bindings, read_cases, read_notes}
+use Rattle.term_grammar.specs.TermForms.{named_parts, is_pattern, case_parts, note_parts, term_form}
+use Rattle.term_grammar.specs.Reads.{byte_of, made_of_two, no_token, pattern_of, with_sorted, read_sort, read_qualified, read_sorted, read_term, read_terms, read_bindings, read_cases, read_notes, with_named, with_pattern, with_attribute}
 use Rattle.term_grammar.specs.FormReading.{term_by}
-use Rattle.term_grammar.specs.SortViews.{sort_of}
-use Rattle.term_grammar.specs.TermViews.{term_of, terms_of, qualified_of, bindings_of, sorted_of, cases_of, notes_of, byte_in}
+use Rattle.term_grammar.specs.NoteForms.{note_of, NoteReads}
+use Rattle.term_grammar.specs.Readings.{sort_of, term_of, terms_of, qualified_of, bindings_of, sorted_of, cases_of, notes_of}
 use Rattle.term_grammar.proofs.FormsRead.{read_term-form}
 use Rattle.term_grammar.proofs.ListsRead.{bindings_by, read_bindings-first, sorted_by, read_sorted-first, cases_by, read_cases-first, notes_by, read_notes-first}
 use Rattle.term_grammar.proofs.SortsSeen.{made_of_ok, made_of_two_ok}
@@ -27,43 +24,36 @@ use Rattle.term_grammar.proofs.SortsSeen.{made_of_ok, made_of_two_ok}
 no_test : false ≡ true → ⊥
 no_test e = cc
 
--- what a term's form tells of its parts
-abbrev pub Seen : Term → TermForm → Type 0
-Seen u (form.Constant c) = u ≡ constant c
-Seen u form.Qualified = Unit {0}
-Seen u (form.Application at h ts) = IsOk (read_qualified (whole h)) × (IsOk (read_terms ts) × (u ≡ application at (qualified_of (whole h)) (terms_of ts)))
-Seen u (form.Let at bs b) = IsOk (read_bindings bs) × (IsOk (read_term (whole b)) × (u ≡ let_in at (bindings_of bs) (term_of (whole b))))
-Seen u (form.Forall at vs b) = IsOk (read_sorted vs) × (IsOk (read_term (whole b)) × (u ≡ for_all at (sorted_of vs) (term_of (whole b))))
-Seen u (form.Exists at vs b) = IsOk (read_sorted vs) × (IsOk (read_term (whole b)) × (u ≡ there_exists at (sorted_of vs) (term_of (whole b))))
-Seen u (form.Match at b cs) = IsOk (read_term (whole b)) × (IsOk (read_cases cs) × (u ≡ match_with at (term_of (whole b)) (cases_of cs)))
-Seen u (form.Annotated at b ns) = IsOk (read_term (whole b)) × (IsOk (read_notes ns) × (u ≡ annotated at (term_of (whole b)) (notes_of ns)))
+-- what the form of a tree that reads as a term tells of the parts
+abbrev pub Seen : Sexp Tok → Term → TermForm → Type 0
+Seen t u (form.Constant c) = u ≡ constant c
+Seen t u form.Qualified = IsOk (read_qualified t) × (u ≡ qualified_term (qualified_of t))
+Seen t u (form.Application h ts) = IsOk (read_qualified (whole h)) × (IsOk (read_terms ts) × (u ≡ application (byte_of t) (qualified_of (whole h)) (terms_of ts)))
+Seen t u (form.Let bs b) = IsOk (read_bindings bs) × (IsOk (read_term (whole b)) × (u ≡ let_in (byte_of t) (bindings_of bs) (term_of (whole b))))
+Seen t u (form.Forall vs b) = IsOk (read_sorted vs) × (IsOk (read_term (whole b)) × (u ≡ for_all (byte_of t) (sorted_of vs) (term_of (whole b))))
+Seen t u (form.Exists vs b) = IsOk (read_sorted vs) × (IsOk (read_term (whole b)) × (u ≡ there_exists (byte_of t) (sorted_of vs) (term_of (whole b))))
+Seen t u (form.Match b cs) = IsOk (read_term (whole b)) × (IsOk (read_cases cs) × (u ≡ match_with (byte_of t) (term_of (whole b)) (cases_of cs)))
+Seen t u (form.Annotated b ns) = IsOk (read_term (whole b)) × (IsOk (read_notes ns) × (u ≡ annotated (byte_of t) (term_of (whole b)) (notes_of ns)))
 
 abbrev term_or : Result Term ℕ → Term
 term_or r = result_unwrap_or r (constant no_token)
 
-form_seen : (t : Sexp Tok) (f : TermForm) → IsOk (term_by t (Ok f)) → Seen (term_or (term_by t (Ok f))) f
+form_seen : (t : Sexp Tok) (f : TermForm) → IsOk (term_by t (Ok f)) → Seen t (term_or (term_by t (Ok f))) f
 form_seen t (form.Constant c) h = refl
-form_seen t form.Qualified h = tt
-form_seen t (form.Application at q ts) h = made_of_two_ok _ _ _ _ _ _ h
-form_seen t (form.Let at bs b) h = made_of_two_ok _ _ _ _ _ _ h
-form_seen t (form.Forall at vs b) h = made_of_two_ok _ _ _ _ _ _ h
-form_seen t (form.Exists at vs b) h = made_of_two_ok _ _ _ _ _ _ h
-form_seen t (form.Match at b cs) h = made_of_two_ok _ _ _ _ _ _ h
-form_seen t (form.Annotated at b ns) h = made_of_two_ok _ _ _ _ _ _ h
+form_seen t form.Qualified h = made_of_ok qualified_term (read_qualified t) (unqualified (symbol no_token)) (constant no_token) h
+form_seen t (form.Application q ts) h = made_of_two_ok _ _ _ _ _ _ h
+form_seen t (form.Let bs b) h = made_of_two_ok _ _ _ _ _ _ h
+form_seen t (form.Forall vs b) h = made_of_two_ok _ _ _ _ _ _ h
+form_seen t (form.Exists vs b) h = made_of_two_ok _ _ _ _ _ _ h
+form_seen t (form.Match b cs) h = made_of_two_ok _ _ _ _ _ _ h
+form_seen t (form.Annotated b ns) h = made_of_two_ok _ _ _ _ _ _ h
 
-pub term_seen : (t : Sexp Tok) (f : TermForm) → term_form t ≡ Ok f → IsOk (read_term t) → Seen (term_of t) f
-term_seen t f e h =
-    let r : read_term t ≡ term_by t (Ok f) = read_term-form t ∙ ap (term_by t) e in
+pub term_seen : (t : Sexp Tok) (r : Result TermForm ℕ) (f : TermForm) → r ≡ term_form t → r ≡ Ok f → IsOk (read_term t) → Seen t (term_of t) f
+term_seen t r f d e h =
+    let r : read_term t ≡ term_by t (Ok f) = read_term-form t ∙ ap (term_by t) (sym d ∙ e) in
     let ok : IsOk (term_by t (Ok f)) = sym (ap (λ (x : Result Term ℕ). is_ok x) r) ∙ h in
-    let P : Term → Type 0 = λ u. Seen u f in
+    let P : Term → Type 0 = λ u. Seen t u f in
     subst P (sym (ap term_or r)) (form_seen t f ok)
-
-pub qualified_seen : (t : Sexp Tok) → term_form t ≡ Ok form.Qualified → IsOk (read_term t) → IsOk (read_qualified t) × (term_of t ≡ qualified_term (qualified_of t))
-qualified_seen t e h =
-    let r : read_term t ≡ made_of qualified_term (read_qualified t) = read_term-form t ∙ ap (term_by t) e in
-    let ok : IsOk (made_of qualified_term (read_qualified t)) = sym (ap (λ (x : Result Term ℕ). is_ok x) r) ∙ h in
-    let m = made_of_ok qualified_term (read_qualified t) (unqualified (symbol no_token)) (constant no_token) ok in
-    (m.0, ap term_or r ∙ m.1)
 
 pub unformed : (t : Sexp Tok) (at : ℕ) → term_form t ≡ Err at → IsOk (read_term t) → ⊥
 unformed t at e h = no_test (sym (ap (λ (x : Result Term ℕ). is_ok x) (read_term-form t ∙ ap (term_by t) e)) ∙ h)
@@ -173,28 +163,17 @@ notes_end ts e = ap notes_or (read_notes-first ts ∙ ap notes_by e)
 notes_made : (ts : Sexps Tok) (o : Option (NoteForm × Sexps Tok)) → note_parts ts ≡ o → read_notes ts ≡ notes_by o
 notes_made ts o e = read_notes-first ts ∙ ap notes_by e
 
-pub named_seen : (ts : Sexps Tok) (k n : Tok) (us : Sexps Tok) → note_parts ts ≡ Some (note.Named k n, us) → IsOk (read_notes ts)
-    → IsOk (read_notes us) × (notes_of ts ≡ with_named k n (notes_of us))
-named_seen ts k n us e h =
-    let r : read_notes ts ≡ made_of (with_named k n) (read_notes us) = notes_made ts _ e in
-    let ok : IsOk (made_of (with_named k n) (read_notes us)) = sym (ap (λ (y : Result Notes ℕ). is_ok y) r) ∙ h in
-    let m = made_of_ok (with_named k n) (read_notes us) no_notes no_notes ok in
-    (m.0, ap notes_or r ∙ m.1)
+note_made : (f : NoteForm) (us : Sexps Tok) → IsOk (notes_by (Some (f, us)))
+    → NoteReads f × (IsOk (read_notes us) × (notes_or (notes_by (Some (f, us))) ≡ with_note (note_of f) (notes_of us)))
+note_made (note.Named n) us h = let m = made_of_ok (with_named n) (read_notes us) no_notes no_notes h in (tt, m)
+note_made (note.Pattern vs) us h = made_of_two_ok with_pattern (read_terms vs) (read_notes us) no_terms no_notes no_notes h
+note_made (note.Attribute k v) us h = let m = made_of_ok (with_attribute k v) (read_notes us) no_notes no_notes h in (tt, m)
 
-pub attribute_seen : (ts : Sexps Tok) (k : Tok) (v : Option Part) (us : Sexps Tok) → note_parts ts ≡ Some (note.Attribute k v, us) → IsOk (read_notes ts)
-    → IsOk (read_notes us) × (notes_of ts ≡ with_attribute k (option_map whole v) (notes_of us))
-attribute_seen ts k v us e h =
-    let r : read_notes ts ≡ made_of (with_attribute k (option_map whole v)) (read_notes us) = notes_made ts _ e in
-    let ok : IsOk (made_of (with_attribute k (option_map whole v)) (read_notes us)) = sym (ap (λ (y : Result Notes ℕ). is_ok y) r) ∙ h in
-    let m = made_of_ok (with_attribute k (option_map whole v)) (read_notes us) no_notes no_notes ok in
-    (m.0, ap notes_or r ∙ m.1)
-
-pub terms_seen : (ts : Sexps Tok) (k : Tok) (vs us : Sexps Tok) → note_parts ts ≡ Some (note.Pattern k vs, us) → IsOk (read_notes ts)
-    → IsOk (read_terms vs) × (IsOk (read_notes us) × (notes_of ts ≡ with_pattern k (terms_of vs) (notes_of us)))
-terms_seen ts k vs us e h =
-    let r : read_notes ts ≡ made_of_two (with_pattern k) (read_terms vs) (read_notes us) = notes_made ts _ e in
-    let ok : IsOk (made_of_two (with_pattern k) (read_terms vs) (read_notes us)) = sym (ap (λ (y : Result Notes ℕ). is_ok y) r) ∙ h in
-    let m = made_of_two_ok (with_pattern k) (read_terms vs) (read_notes us) no_terms no_notes no_notes ok in
+pub notes_begin : (ts : Sexps Tok) (f : NoteForm) (us : Sexps Tok) → note_parts ts ≡ Some (f, us) → IsOk (read_notes ts)
+    → NoteReads f × (IsOk (read_notes us) × (notes_of ts ≡ with_note (note_of f) (notes_of us)))
+notes_begin ts f us e h =
+    let r : read_notes ts ≡ notes_by (Some (f, us)) = notes_made ts _ e in
+    let m = note_made f us (sym (ap (λ (y : Result Notes ℕ). is_ok y) r) ∙ h) in
     (m.0, (m.1.0, ap notes_or r ∙ m.1.1))
 
 no_variables_seen : sorted_of nil ≡ []
@@ -225,64 +204,3 @@ variable_begin ts b ps us x p h e f =
     let ok : IsOk (made_of_two (with_sorted b x) (read_sort (whole p)) (read_sorted us)) = sym (ap (λ (y : Result (List SortedSymbol) ℕ). is_ok y) r) ∙ h in
     let m = made_of_two_ok (with_sorted b x) (read_sort (whole p)) (read_sorted us) (named_sort (symbol no_token)) [] [] ok in
     (m.0, (m.1.0, ap sorted_or r ∙ m.1.1))
-
--- the head of an application is a qualified identifier
-abbrev pub head_fits : Result TermForm ℕ → Bool
-head_fits (Ok (form.Application at h ts)) = is_qualified (whole h)
-head_fits _ = true
-
-let_fits : (at : ℕ) (o : Option (Sexps Tok × Part)) → head_fits (or_at at (option_and_then (λ (b : Sexps Tok × Part). Some (form.Let at b.0 b.1)) o)) ≡ true
-let_fits at None = refl
-let_fits at (Some b) = refl
-
-forall_fits : (at : ℕ) (o : Option (Sexps Tok × Part)) → head_fits (or_at at (option_and_then (λ (b : Sexps Tok × Part). Some (form.Forall at b.0 b.1)) o)) ≡ true
-forall_fits at None = refl
-forall_fits at (Some b) = refl
-
-exists_fits : (at : ℕ) (o : Option (Sexps Tok × Part)) → head_fits (or_at at (option_and_then (λ (b : Sexps Tok × Part). Some (form.Exists at b.0 b.1)) o)) ≡ true
-exists_fits at None = refl
-exists_fits at (Some b) = refl
-
-match_fits : (at : ℕ) (o : Option (Part × Sexps Tok)) → head_fits (or_at at (option_and_then (λ (m : Part × Sexps Tok). Some (form.Match at m.0 m.1)) o)) ≡ true
-match_fits at None = refl
-match_fits at (Some m) = refl
-
-annotation_fits : (at : ℕ) (o : Option (Part × Sexps Tok)) → head_fits (or_at at (option_and_then (λ (n : Part × Sexps Tok). Some (form.Annotated at n.0 n.1)) o)) ≡ true
-annotation_fits at None = refl
-annotation_fits at (Some n) = refl
-
-word_fits : (at : ℕ) (ts : Sexps Tok) (w : TermWord) → head_fits (or_at at (word_form w at ts)) ≡ true
-word_fits at ts word.Let = let_fits at (binder_parts ts)
-word_fits at ts word.Forall = forall_fits at (binder_parts ts)
-word_fits at ts word.Exists = exists_fits at (binder_parts ts)
-word_fits at ts word.Match = match_fits at (match_parts ts)
-word_fits at ts word.Annotation = annotation_fits at (annotation_parts ts)
-word_fits at ts word.Other = refl
-
-application_fits : (at : ℕ) (h : Part) (e : Bool) (ts : Sexps Tok) → is_qualified (whole h) ≡ true → head_fits (or_at at (if e then None else Some (form.Application at h ts))) ≡ true
-application_fits at h true ts q = refl
-application_fits at h false ts q = q
-
-list_fits : (at : ℕ) (h : Part) (ts : Sexps Tok) (q i : Bool) → is_qualified (whole h) ≡ i
-    → head_fits (if q then Ok form.Qualified else or_at at (if i then application_form at h ts else word_form (word_of (whole h)) at ts)) ≡ true
-list_fits at h ts true i e = refl
-list_fits at h ts false true e = application_fits at h (is_empty ts) ts e
-list_fits at h ts false false e = word_fits at ts (word_of (whole h))
-
-atom_fits : (t : Tok) (q k : Bool) → head_fits (if q then Ok form.Qualified else if k then Ok (form.Constant t) else Err t.at) ≡ true
-atom_fits t true k = refl
-atom_fits t false true = refl
-atom_fits t false false = refl
-
-term_form-head : (t : Sexp Tok) → head_fits (term_form t) ≡ true
-term_form-head (atom t) = atom_fits t (is_qualified (atom t)) (is_constant t)
-term_form-head (list at nil) = refl
-term_form-head (list at (cons (atom w) ts)) = list_fits at (part.Atom w) ts (is_qualified (list at (cons (atom w) ts))) (is_qualified (atom w)) refl
-term_form-head (list at (cons (list b us) ts)) = list_fits at (part.List b us) ts (is_qualified (list at (cons (list b us) ts))) (is_qualified (list b us)) refl
-
-pub head_seen : (t : Sexp Tok) (at : ℕ) (h : Part) (ts : Sexps Tok) → term_form t ≡ Ok (form.Application at h ts) → IsTrue (is_qualified (whole h))
-head_seen t at h ts e = sym (ap head_fits e) ∙ term_form-head t
-
--- the byte of a list, read off the term
-pub shown_at : (f : ℕ → Term) (u : Term) (at : ℕ) → ((x : ℕ) → byte_in (f x) ≡ x) → u ≡ f at → u ≡ f (byte_in u)
-shown_at f u at b e = e ∙ ap f (sym (ap byte_in e ∙ b at))

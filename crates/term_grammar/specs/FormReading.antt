@@ -8,23 +8,23 @@ use Rattle.term_grammar.specs.declared.form.SortForm.TheVariants as sort
 use Rattle.term_grammar.specs.declared.term_form.TermForm.{TermForm}
 use Rattle.term_grammar.specs.declared.term_form.TermForm.TheVariants as term
 use Rattle.term_grammar.specs.Syntax.{Sort, named_sort, applied_sort, Term, constant, qualified_term, application, let_in, for_all, there_exists, match_with, annotated}
-use Rattle.term_grammar.specs.Reads.{made_of, made_of_two, identifier_of, read_sorts, read_sorted, read_qualified, read_term, read_terms, read_bindings, read_cases, read_notes}
+use Rattle.term_grammar.specs.Reads.{made_of, made_of_two, byte_of, identifier_of, read_sorts, read_sorted, read_qualified, read_term, read_terms, read_bindings, read_cases, read_notes}
 
 abbrev pub sort_by : Sexp Tok → Result SortForm ℕ → Result Sort ℕ
 sort_by t (Err e) = Err e
 sort_by t (Ok sort.Identifier) = Ok (named_sort (identifier_of t))
-sort_by t (Ok (sort.Applied at i ss)) = made_of (applied_sort at (identifier_of (whole i))) (read_sorts ss)
+sort_by t (Ok (sort.Applied i ss)) = made_of (applied_sort (byte_of t) (identifier_of (whole i))) (read_sorts ss)
 
 abbrev pub term_by : Sexp Tok → Result TermForm ℕ → Result Term ℕ
 term_by t (Err e) = Err e
 term_by t (Ok (term.Constant c)) = Ok (constant c)
 term_by t (Ok term.Qualified) = made_of qualified_term (read_qualified t)
-term_by t (Ok (term.Application at h ts)) = made_of_two (application at) (read_qualified (whole h)) (read_terms ts)
-term_by t (Ok (term.Let at bs u)) = made_of_two (let_in at) (read_bindings bs) (read_term (whole u))
-term_by t (Ok (term.Forall at vs u)) = made_of_two (for_all at) (read_sorted vs) (read_term (whole u))
-term_by t (Ok (term.Exists at vs u)) = made_of_two (there_exists at) (read_sorted vs) (read_term (whole u))
-term_by t (Ok (term.Match at u cs)) = made_of_two (match_with at) (read_term (whole u)) (read_cases cs)
-term_by t (Ok (term.Annotated at u ns)) = made_of_two (annotated at) (read_term (whole u)) (read_notes ns)
+term_by t (Ok (term.Application h ts)) = made_of_two (application (byte_of t)) (read_qualified (whole h)) (read_terms ts)
+term_by t (Ok (term.Let bs u)) = made_of_two (let_in (byte_of t)) (read_bindings bs) (read_term (whole u))
+term_by t (Ok (term.Forall vs u)) = made_of_two (for_all (byte_of t)) (read_sorted vs) (read_term (whole u))
+term_by t (Ok (term.Exists vs u)) = made_of_two (there_exists (byte_of t)) (read_sorted vs) (read_term (whole u))
+term_by t (Ok (term.Match u cs)) = made_of_two (match_with (byte_of t)) (read_term (whole u)) (read_cases cs)
+term_by t (Ok (term.Annotated u ns)) = made_of_two (annotated (byte_of t)) (read_term (whole u)) (read_notes ns)
 
 -- whether it reads, or the fault
 abbrev pub judged : {A : Type 0} → Result A ℕ → Result (Unit {0}) ℕ
@@ -39,15 +39,15 @@ both (Err e) r = Err e
 abbrev pub sort_judged_by : Result SortForm ℕ → Result (Unit {0}) ℕ
 sort_judged_by (Err e) = Err e
 sort_judged_by (Ok sort.Identifier) = Ok tt
-sort_judged_by (Ok (sort.Applied at i ss)) = judged (read_sorts ss)
+sort_judged_by (Ok (sort.Applied i ss)) = judged (read_sorts ss)
 
 abbrev pub term_judged_by : Sexp Tok → Result TermForm ℕ → Result (Unit {0}) ℕ
 term_judged_by t (Err e) = Err e
 term_judged_by t (Ok (term.Constant c)) = Ok tt
 term_judged_by t (Ok term.Qualified) = judged (read_qualified t)
-term_judged_by t (Ok (term.Application at h ts)) = both (judged (read_qualified (whole h))) (judged (read_terms ts))
-term_judged_by t (Ok (term.Let at bs u)) = both (judged (read_bindings bs)) (judged (read_term (whole u)))
-term_judged_by t (Ok (term.Forall at vs u)) = both (judged (read_sorted vs)) (judged (read_term (whole u)))
-term_judged_by t (Ok (term.Exists at vs u)) = both (judged (read_sorted vs)) (judged (read_term (whole u)))
-term_judged_by t (Ok (term.Match at u cs)) = both (judged (read_term (whole u))) (judged (read_cases cs))
-term_judged_by t (Ok (term.Annotated at u ns)) = both (judged (read_term (whole u))) (judged (read_notes ns))
+term_judged_by t (Ok (term.Application h ts)) = both (judged (read_qualified (whole h))) (judged (read_terms ts))
+term_judged_by t (Ok (term.Let bs u)) = both (judged (read_bindings bs)) (judged (read_term (whole u)))
+term_judged_by t (Ok (term.Forall vs u)) = both (judged (read_sorted vs)) (judged (read_term (whole u)))
+term_judged_by t (Ok (term.Exists vs u)) = both (judged (read_sorted vs)) (judged (read_term (whole u)))
+term_judged_by t (Ok (term.Match u cs)) = both (judged (read_term (whole u))) (judged (read_cases cs))
+term_judged_by t (Ok (term.Annotated u ns)) = both (judged (read_term (whole u))) (judged (read_notes ns))

@@ -40,7 +40,7 @@ applied_parts ts = do
   Some (i.0, i.1)
 
 abbrev pub applied_form : ℕ → Option (Part × Sexps Tok) → Result SortForm ℕ
-applied_form at (Some p) = Ok (sort.Applied at p.0 p.1)
+applied_form at (Some p) = Ok (sort.Applied p.0 p.1)
 applied_form at None = Err at
 
 abbrev pub unnamed_form : Sexp Tok → Result SortForm ℕ

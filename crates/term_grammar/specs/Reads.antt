@@ -12,7 +12,7 @@ use Rattle.term_grammar.specs.declared.words.TermWord.{TermWord}
 use Rattle.term_grammar.specs.declared.words.TermWord.TheVariants as word
 use Rattle.term_grammar.specs.Words.{is_symbol, is_constant, is_key, is_value_token}
 use Rattle.term_grammar.specs.FirstParts.{is_empty}
-use Rattle.term_grammar.specs.Syntax.{Identifier, symbol, indexed, Sort, named_sort, applied_sort, Sorts, no_sorts, with_sort, Qualified, unqualified, qualified, SortedSymbol, Pattern, symbol_pattern, constructor_pattern, Term, constant, qualified_term, application, let_in, for_all, there_exists, match_with, annotated, Terms, no_terms, with_term, Bindings, no_bindings, with_binding, Cases, no_cases, with_case, Notes, no_notes, with_named, with_pattern, with_attribute}
+use Rattle.term_grammar.specs.Syntax.{Identifier, symbol, indexed, Sort, named_sort, applied_sort, Sorts, no_sorts, with_sort, Qualified, unqualified, qualified, SortedSymbol, Pattern, symbol_pattern, constructor_pattern, Term, constant, qualified_term, application, let_in, for_all, there_exists, match_with, annotated, Terms, no_terms, with_term, Bindings, no_bindings, with_binding, Cases, no_cases, with_case, Attribute, keyword_attribute, valued_attribute, Notes, no_notes, with_note, named_note, pattern_note, attribute_note}
 use Rattle.term_grammar.specs.Forms.{indexed_parts, is_identifier}
 use Rattle.term_grammar.specs.TermForms.{as_parts, is_qualified, is_pattern, is_other_key, constructor_parts, are_named, are_cases, are_notes, word_of}
 
@@ -61,6 +61,20 @@ abbrev pub pattern_of : Sexp Tok → Pattern
 pattern_of (atom t) = symbol_pattern t
 pattern_of (list at ts) = pattern_by at (constructor_parts ts)
 
+-- an attribute, by its value if there is one
+abbrev pub attribute_of : Tok → Option (Sexp Tok) → Attribute
+attribute_of k None = keyword_attribute k
+attribute_of k (Some v) = valued_attribute k v
+
+abbrev pub with_named : Tok → Notes → Notes
+with_named n ns = with_note (named_note n) ns
+
+abbrev pub with_pattern : Terms → Notes → Notes
+with_pattern ts ns = with_note (pattern_note ts) ns
+
+abbrev pub with_attribute : Tok → Option (Sexp Tok) → Notes → Notes
+with_attribute k v ns = with_note (attribute_note (attribute_of k v)) ns
+
 -- identifier | ( identifier sort+ )
 unfoldable mutual
   pub read_sort : Sexp Tok → Result Sort ℕ
@@ -90,7 +104,7 @@ qualified_by at None = Err at
 
 -- identifier | ( as identifier sort )
 unfoldable pub read_qualified : Sexp Tok → Result Qualified ℕ
-read_qualified (atom t) = Ok (unqualified (symbol t))
+read_qualified (atom t) = if is_symbol t then Ok (unqualified (symbol t)) else Err t.at
 read_qualified (list at ts) = if is_identifier (list at ts) then Ok (unqualified (identifier_of (list at ts))) else qualified_by at (as_parts ts)
 
 -- the reading of the production that a word begins
@@ -163,13 +177,13 @@ unfoldable mutual
   pub read_notes : Sexps Tok → Result Notes ℕ
   read_notes (cons (atom k) nil) = if is_other_key k then Ok (with_attribute k None no_notes) else Ok no_notes
   read_notes (cons (atom k) (cons (atom v) ns)) =
-      if is_key NAMED k then (if is_symbol v then made_of (with_named k v) (read_notes ns) else Ok no_notes)
+      if is_key NAMED k then (if is_symbol v then made_of (with_named v) (read_notes ns) else Ok no_notes)
       else if is_other_key k then
       (if is_value_token v then made_of (with_attribute k (Some (atom v))) (read_notes ns)
       else made_of (with_attribute k None) (read_notes (cons (atom v) ns)))
       else Ok no_notes
   read_notes (cons (atom k) (cons (list b us) ns)) =
-      if is_key PATTERN k then (if not (is_empty us) then made_of_two (with_pattern k) (read_terms us) (read_notes ns) else Ok no_notes)
+      if is_key PATTERN k then (if not (is_empty us) then made_of_two with_pattern (read_terms us) (read_notes ns) else Ok no_notes)
       else if is_other_key k then made_of (with_attribute k (Some (list b us))) (read_notes ns)
       else Ok no_notes
   read_notes _ = Ok no_notes

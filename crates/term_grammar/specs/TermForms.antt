@@ -12,7 +12,8 @@ use Rattle.term_grammar.specs.declared.term_form.TermForm.TheVariants as term
 use Rattle.term_grammar.specs.declared.term_form.NoteForm.{NoteForm}
 use Rattle.term_grammar.specs.declared.term_form.NoteForm.TheVariants as note
 use Rattle.term_grammar.specs.Words.{is_symbol, is_reserved, is_constant, is_keyword, is_key, is_value_token, begins_with}
-use Rattle.term_grammar.specs.FirstParts.{◌>>=◌, part_of, any_first, token_first, symbol_first, list_first, is_empty, guard}
+use Rattle.term_grammar.specs.FirstParts.{◌>>=◌, any_first, token_first, symbol_first, list_first, is_empty, guard}
+use Rattle.term_grammar.specs.Values.{is_value}
 use Rattle.term_grammar.specs.Forms.{is_identifier}
 
 -- after the word `as`: identifier sort
@@ -82,26 +83,21 @@ are_cases nil = true
 are_cases (cons (atom t) ts) = false
 are_cases (cons (list at us) ts) = is_some (case_parts us) && are_cases ts
 
--- constant | symbol | ( sexpr* )
-abbrev pub is_value : Sexp Tok → Bool
-is_value (atom t) = is_value_token t
-is_value (list at ts) = true
-
 -- the value that comes next, if one does, and the others
-abbrev pub value_first : Sexps Tok → Option Part × Sexps Tok
+abbrev pub value_first : Sexps Tok → Option (Sexp Tok) × Sexps Tok
 value_first nil = (None, nil)
-value_first (cons t ts) = if is_value t then (Some (part_of t), ts) else (None, cons t ts)
+value_first (cons t ts) = if is_value t then (Some t, ts) else (None, cons t ts)
 
-abbrev pub named_note : Tok → Sexps Tok → Option (NoteForm × Sexps Tok)
-named_note k ts = do
+abbrev pub named_note : Sexps Tok → Option (NoteForm × Sexps Tok)
+named_note ts = do
   n ← symbol_first ts
-  Some (note.Named k n.0, n.1)
+  Some (note.Named n.0, n.1)
 
-abbrev pub pattern_note : Tok → Sexps Tok → Option (NoteForm × Sexps Tok)
-pattern_note k ts = do
+abbrev pub pattern_note : Sexps Tok → Option (NoteForm × Sexps Tok)
+pattern_note ts = do
   p ← list_first ts
   _ ← guard (not (is_empty p.0))
-  Some (note.Pattern k p.0, p.1)
+  Some (note.Pattern p.0, p.1)
 
 abbrev pub attribute_note : Tok → Sexps Tok → Option (NoteForm × Sexps Tok)
 attribute_note k ts = do
@@ -109,7 +105,7 @@ attribute_note k ts = do
   Some (note.Attribute k (value_first ts).0, (value_first ts).1)
 
 abbrev pub note_after : Tok → Sexps Tok → Option (NoteForm × Sexps Tok)
-note_after k ts = if is_key NAMED k then named_note k ts else if is_key PATTERN k then pattern_note k ts else attribute_note k ts
+note_after k ts = if is_key NAMED k then named_note ts else if is_key PATTERN k then pattern_note ts else attribute_note k ts
 
 -- the first of the attributes of a term, and the others
 abbrev pub note_parts : Sexps Tok → Option (NoteForm × Sexps Tok)
@@ -161,39 +157,39 @@ annotation_parts ts = do
   _ ← guard (are_notes t.1)
   Some (t.0, t.1)
 
-abbrev pub word_form : TermWord → ℕ → Sexps Tok → Option TermForm
-word_form word.Let at ts = do
+abbrev pub word_form : TermWord → Sexps Tok → Option TermForm
+word_form word.Let ts = do
   b ← binder_parts ts
-  Some (term.Let at b.0 b.1)
-word_form word.Forall at ts = do
+  Some (term.Let b.0 b.1)
+word_form word.Forall ts = do
   b ← binder_parts ts
-  Some (term.Forall at b.0 b.1)
-word_form word.Exists at ts = do
+  Some (term.Forall b.0 b.1)
+word_form word.Exists ts = do
   b ← binder_parts ts
-  Some (term.Exists at b.0 b.1)
-word_form word.Match at ts = do
+  Some (term.Exists b.0 b.1)
+word_form word.Match ts = do
   m ← match_parts ts
-  Some (term.Match at m.0 m.1)
-word_form word.Annotation at ts = do
+  Some (term.Match m.0 m.1)
+word_form word.Annotation ts = do
   n ← annotation_parts ts
-  Some (term.Annotated at n.0 n.1)
-word_form word.Other at ts = None
+  Some (term.Annotated n.0 n.1)
+word_form word.Other ts = None
 
-abbrev pub application_form : ℕ → Part → Sexps Tok → Option TermForm
-application_form at h ts = if is_empty ts then None else Some (term.Application at h ts)
+abbrev pub application_form : Part → Sexps Tok → Option TermForm
+application_form h ts = if is_empty ts then None else Some (term.Application h ts)
 
 -- the word that begins a list; a list begins no production but an application
 abbrev pub word_of : Sexp Tok → TermWord
 word_of (atom w) = begins_with w
 word_of (list at ts) = word.Other
 
-abbrev pub head_form : ℕ → Part → Sexps Tok → Option TermForm
-head_form at h ts = if is_qualified (whole h) then application_form at h ts else word_form (word_of (whole h)) at ts
+abbrev pub head_form : Part → Sexps Tok → Option TermForm
+head_form h ts = if is_qualified (whole h) then application_form h ts else word_form (word_of (whole h)) ts
 
-abbrev pub list_form : ℕ → Sexps Tok → Option TermForm
-list_form at ts = do
+abbrev pub list_form : Sexps Tok → Option TermForm
+list_form ts = do
   h ← any_first ts
-  head_form at h.0 h.1
+  head_form h.0 h.1
 
 abbrev pub or_at : ℕ → Option TermForm → Result TermForm ℕ
 or_at at (Some f) = Ok f
@@ -201,7 +197,7 @@ or_at at None = Err at
 
 abbrev pub unqualified_form : Sexp Tok → Result TermForm ℕ
 unqualified_form (atom t) = if is_constant t then Ok (term.Constant t) else Err t.at
-unqualified_form (list at ts) = or_at at (list_form at ts)
+unqualified_form (list at ts) = or_at at (list_form ts)
 
 -- the form of a term, or the first byte of a tree that has none
 abbrev pub term_form : Sexp Tok → Result TermForm ℕ

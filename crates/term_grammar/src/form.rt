@@ -13,7 +13,6 @@ use sexp_core::{Part, Trees};
 pub enum SortForm<'t> {
     Identifier,
     Applied {
-        at: u32,
         identifier: Part<'t>,
         args: Trees<'t>,
     },
@@ -80,11 +79,7 @@ pub fn sort_form<'t>(tree: &Part<'t>) -> Result<SortForm<'t>, u32>
     match tree {
         Part::Atom(tok) => Err(tok.at),
         Part::List { at, parts } => match applied_parts(parts) {
-            Some((identifier, args)) => Ok(SortForm::Applied {
-                at: *at,
-                identifier,
-                args,
-            }),
+            Some((identifier, args)) => Ok(SortForm::Applied { identifier, args }),
             None => Err(*at),
         },
     }

@@ -64,7 +64,7 @@ pub fn judge_qualified(tree: &Part) -> Result<(), u32>
         return Ok(());
     }
     match tree {
-        Part::Atom(_) => Ok(()),
+        Part::Atom(tok) => Err(tok.at),
         Part::List { at, parts } => match as_parts(parts) {
             Some((_, sort)) => judge_sort(&sort),
             None => Err(*at),
@@ -81,36 +81,28 @@ pub fn judge_term(tree: &Part) -> Result<(), u32>
     match term_form(tree)? {
         TermForm::Constant(_) => Ok(()),
         TermForm::Qualified => judge_qualified(tree),
-        TermForm::Application { head, args, .. } => {
+        TermForm::Application { head, args } => {
             judge_qualified(&head)?;
             judge_terms(&args)
         }
-        TermForm::Let { bindings, body, .. } => {
+        TermForm::Let { bindings, body } => {
             judge_bindings(&bindings)?;
             judge_term(&body)
         }
-        TermForm::Forall {
-            variables,
-            body,
-            ..
-        } => {
+        TermForm::Forall { variables, body } => {
             judge_sorted(&variables)?;
             judge_term(&body)
         }
-        TermForm::Exists {
-            variables,
-            body,
-            ..
-        } => {
+        TermForm::Exists { variables, body } => {
             judge_sorted(&variables)?;
             judge_term(&body)
         }
-        TermForm::Match { of, cases, .. } => {
-            judge_term(&of)?;
+        TermForm::Match { term, cases } => {
+            judge_term(&term)?;
             judge_cases(&cases)
         }
-        TermForm::Annotated { body, notes, .. } => {
-            judge_term(&body)?;
+        TermForm::Annotated { term, notes } => {
+            judge_term(&term)?;
             judge_notes(&notes)
         }
     }

@@ -1,27 +1,35 @@
 //! The grammar of the sorts and terms of SMT-LIB 2.6: views of a tree, one for each nonterminal.
 #![tactic(auto)]
 
+mod attribute;
+mod binder;
 mod form;
+mod identifier;
 mod judge;
 mod laws;
+mod note;
 mod parts;
+mod pattern;
+mod qualified;
+mod sexpr;
 mod sort;
 mod term;
 mod term_form;
 mod words;
 
+pub use attribute::{RawAttribute, RawAttributeKind, RawValue, RawValueKind};
+pub use binder::{RawBinding, RawBindings, RawVariable, RawVariables, read_variables};
 pub use form::{SortForm, applied_parts, are_indices, indexed_parts, is_identifier, sort_form};
+pub use identifier::{RawIdentifier, RawIdentifierKind, RawIndices};
 pub use judge::{judge_sort, judge_sorted, judge_sorts, judge_term, judge_terms};
 pub use laws::word_laws;
+pub use note::{RawNote, RawNoteKind, RawNotes};
 pub use parts::{any_first, guard, is_empty, list_first, symbol_first, token_first};
-pub use sort::{
-    RawIdentifier, RawIdentifierKind, RawIndices, RawSort, RawSortKind, RawSorts, read_sort,
-};
-pub use term::{
-    RawBinding, RawBindings, RawCase, RawCases, RawNote, RawNotes, RawPattern, RawPatternKind,
-    RawQualified, RawSymbols, RawTerm, RawTermKind, RawTerms, RawValue, RawVariable, RawVariables,
-    read_term,
-};
+pub use pattern::{RawCase, RawCases, RawPattern, RawPatternKind, RawSymbols};
+pub use qualified::{RawQualified, RawQualifiedKind};
+pub use sexpr::{RawSexpr, RawSexprKind, RawSexprs};
+pub use sort::{RawSort, RawSortKind, RawSorts, read_sort, read_sorts};
+pub use term::{RawTerm, RawTermKind, RawTerms, read_term, read_terms};
 pub use term_form::{are_named, are_symbols, value_first};
 pub use words::{
     ANNOTATION, AS, EXISTS, FALSE, FORALL, GLOBAL_DECLARATIONS, LET, MATCH, NAMED, NOT, PAR,

@@ -1,5 +1,7 @@
 //! The first of some trees, by its form, and the others.
 ghost use Rattle.std.specs.Prelude.{◌≡◌};
+ghost use Rattle.sexp_core.specs.Parts.{whole};
+ghost use Rattle.term_grammar.specs.Reads.{byte_of};
 ghost use Rattle.term_grammar.specs.FirstParts.{any_first as any_and_others, token_first as token_and_others, symbol_first as symbol_and_others, list_first as list_and_others, is_empty as are_none, guard as guarded};
 
 use crate::words::is_symbol;
@@ -59,4 +61,14 @@ pub fn guard(condition: bool) -> Option<()>
     ensures { result ≡ guarded condition }
 {
     if condition { Some(()) } else { None }
+}
+
+/// The first byte of a tree.
+pub(crate) fn first_byte(tree: &Part) -> u32
+    ensures { result ≡ byte_of (whole tree.now) }
+{
+    match tree {
+        Part::Atom(tok) => tok.at,
+        Part::List { at, .. } => *at,
+    }
 }

@@ -1,8 +1,10 @@
 //! The form of a term: the parts of its production, whose own forms are not judged yet.
 ghost use Rattle.std.specs.Prelude.{◌≡◌};
 ghost use Rattle.sexp_core.specs.Parts.{whole};
+ghost use Rattle.term_grammar.specs.Values.{is_value as is_a_value};
 ghost use Rattle.term_grammar.specs.TermForms as definition;
 
+use crate::attribute::RawValue;
 use crate::form::is_identifier;
 use crate::parts::{any_first, guard, is_empty, list_first, symbol_first, token_first};
 use crate::words::{
@@ -17,33 +19,27 @@ pub enum TermForm<'t> {
     Constant(Tok),
     Qualified,
     Application {
-        at: u32,
         head: Part<'t>,
         args: Trees<'t>,
     },
     Let {
-        at: u32,
         bindings: Trees<'t>,
         body: Part<'t>,
     },
     Forall {
-        at: u32,
         variables: Trees<'t>,
         body: Part<'t>,
     },
     Exists {
-        at: u32,
         variables: Trees<'t>,
         body: Part<'t>,
     },
     Match {
-        at: u32,
-        of: Part<'t>,
+        term: Part<'t>,
         cases: Trees<'t>,
     },
     Annotated {
-        at: u32,
-        body: Part<'t>,
+        term: Part<'t>,
         notes: Trees<'t>,
     },
 }
@@ -51,9 +47,16 @@ pub enum TermForm<'t> {
 /// An attribute of a term, by its production.
 #[derive(Drop)]
 pub enum NoteForm<'t> {
-    Named { key: Tok, name: Tok },
-    Pattern { key: Tok, terms: Trees<'t> },
-    Attribute { key: Tok, value: Option<Part<'t>> },
+    Named {
+        name: Tok,
+    },
+    Pattern {
+        terms: Trees<'t>,
+    },
+    Attribute {
+        keyword: Tok,
+        value: Option<RawValue<'t>>,
+    },
 }
 
 /// The parts of `( as identifier sort )`.
@@ -183,8 +186,8 @@ fn are_cases(trees: &Trees) -> bool
 }
 
 /// Whether the tree is a constant, a symbol or a list.
-pub fn is_value(tree: &Part) -> bool
-    ensures { result ≡ definition.is_value (whole tree.now) }
+fn is_value(tree: &Part) -> bool
+    ensures { result ≡ is_a_value (whole tree.now) }
 {
     match tree {
         Part::Atom(tok) => is_value_token(tok),
@@ -193,14 +196,14 @@ pub fn is_value(tree: &Part) -> bool
 }
 
 /// The value that comes next, if one does, and the other trees.
-pub fn value_first<'t>(trees: Trees<'t>) -> (Option<Part<'t>>, Trees<'t>)
+pub fn value_first<'t>(trees: Trees<'t>) -> (Option<RawValue<'t>>, Trees<'t>)
     ensures { result ≡ definition.value_first trees.entry }
 {
-    let Some((first, rest)) = any_first(&trees) else {
+    let Some((tree, rest)) = any_first(&trees) else {
         return (None, trees);
     };
-    if is_value(&first) {
-        (Some(first), rest)
+    if is_value(&tree) {
+        (Some(RawValue { tree }), rest)
     } else {
         (None, trees)
     }
@@ -210,19 +213,19 @@ pub fn value_first<'t>(trees: Trees<'t>) -> (Option<Part<'t>>, Trees<'t>)
 pub fn note_parts<'t>(trees: &Trees<'t>) -> Option<(NoteForm<'t>, Trees<'t>)>
     ensures { result ≡ definition.note_parts trees.now }
 {
-    let (key, rest) = token_first(trees)?;
-    if is_key(&key, NAMED) {
+    let (keyword, rest) = token_first(trees)?;
+    if is_key(&keyword, NAMED) {
         let (name, rest) = symbol_first(&rest)?;
-        return Some((NoteForm::Named { key, name }, rest));
+        return Some((NoteForm::Named { name }, rest));
     }
-    if is_key(&key, PATTERN) {
+    if is_key(&keyword, PATTERN) {
         let (terms, rest) = list_first(&rest)?;
         guard(!is_empty(&terms))?;
-        return Some((NoteForm::Pattern { key, terms }, rest));
+        return Some((NoteForm::Pattern { terms }, rest));
     }
-    guard(is_keyword(&key))?;
+    guard(is_keyword(&keyword))?;
     let (value, rest) = value_first(rest);
-    Some((NoteForm::Attribute { key, value }, rest))
+    Some((NoteForm::Attribute { keyword, value }, rest))
 }
 
 /// Whether each of some trees belongs to an attribute of a term.
@@ -273,37 +276,29 @@ fn annotation_parts<'t>(parts: &Trees<'t>) -> Option<(Part<'t>, Trees<'t>)>
     Some((body, notes))
 }
 
-fn word_form<'t>(word: TermWord, at: u32, parts: &Trees<'t>) -> Option<TermForm<'t>>
-    ensures { result ≡ definition.word_form word at parts.now }
+fn word_form<'t>(word: TermWord, parts: &Trees<'t>) -> Option<TermForm<'t>>
+    ensures { result ≡ definition.word_form word parts.now }
 {
     match word {
         TermWord::Let => {
             let (bindings, body) = binder_parts(parts)?;
-            Some(TermForm::Let { at, bindings, body })
+            Some(TermForm::Let { bindings, body })
         }
         TermWord::Forall => {
             let (variables, body) = binder_parts(parts)?;
-            Some(TermForm::Forall {
-                at,
-                variables,
-                body,
-            })
+            Some(TermForm::Forall { variables, body })
         }
         TermWord::Exists => {
             let (variables, body) = binder_parts(parts)?;
-            Some(TermForm::Exists {
-                at,
-                variables,
-                body,
-            })
+            Some(TermForm::Exists { variables, body })
         }
         TermWord::Match => {
-            let (of, cases) = match_parts(parts)?;
-            Some(TermForm::Match { at, of, cases })
+            let (term, cases) = match_parts(parts)?;
+            Some(TermForm::Match { term, cases })
         }
         TermWord::Annotation => {
-            let (body, notes) = annotation_parts(parts)?;
-            Some(TermForm::Annotated { at, body, notes })
+            let (term, notes) = annotation_parts(parts)?;
+            Some(TermForm::Annotated { term, notes })
         }
         TermWord::Other => None,
     }
@@ -318,17 +313,17 @@ fn word_of(tree: &Part) -> TermWord
     }
 }
 
-fn list_form<'t>(at: u32, parts: &Trees<'t>) -> Option<TermForm<'t>>
-    ensures { result ≡ definition.list_form at parts.now }
+fn list_form<'t>(parts: &Trees<'t>) -> Option<TermForm<'t>>
+    ensures { result ≡ definition.list_form parts.now }
 {
     let (head, args) = any_first(parts)?;
     if !is_qualified(&head) {
-        return word_form(word_of(&head), at, &args);
+        return word_form(word_of(&head), &args);
     }
     if is_empty(&args) {
         return None;
     }
-    Some(TermForm::Application { at, head, args })
+    Some(TermForm::Application { head, args })
 }
 
 /// The form of a term, or the first byte of a tree that has none.
@@ -346,7 +341,7 @@ pub fn term_form<'t>(tree: &Part<'t>) -> Result<TermForm<'t>, u32>
                 Err(tok.at)
             }
         }
-        Part::List { at, parts } => match list_form(*at, parts) {
+        Part::List { at, parts } => match list_form(parts) {
             Some(form) => Ok(form),
             None => Err(*at),
         },
