@@ -1,5 +1,5 @@
 -- Sort symbols in the arguments of a sort, and the sizes of arguments.
-use Rattle.std.proofs.Common.{◌≡◌, ℕ, zero, suc, ◌+◌, ◌<◌, ◌≤◌, Bool, true, false, ◌||◌, List, [], ◌∷◌, length, Some, None, refl, ap, sym, ◌∙◌, arith, slice_get}
+use Rattle.std.proofs.Common.{◌≡◌, ℕ, zero, suc, ◌<◌, ◌≤◌, Bool, true, false, ◌||◌, List, length, Some, refl, ap, sym, ◌∙◌, arith, slice_get}
 use Rattle.std.proofs.lemmas.Option.{slice_get_within}
 use Rattle.sort_store.specs.Tree.{NumberedSort, node, NumberedSorts, no_nodes, more_nodes, node_list, tree, trees, parts, head, node_count, nodes_count}
 use Rattle.typer.specs.SortRules.{is_captured, has_captured, have_captured}
@@ -41,7 +41,7 @@ module _ (texts : List (List ℕ)) (params : List ℕ) where
   none_of_each (more_nodes r rs) h = neither _ _ (h zero r refl) (none_of_each rs (λ i a e. h (suc i) a e))
 
   pub none_captured : (r : NumberedSort) (n : ℕ) → is_captured texts params (head r) ≡ false → length (parts r) ≤ n
-    → ((i : ℕ) (a : NumberedSort) → i < n → slice_get (parts r) i ≡ Some a → has_captured texts params (tree a) ≡ false) → false ≡ has_captured texts params (tree r)
+      → ((i : ℕ) (a : NumberedSort) → i < n → slice_get (parts r) i ≡ Some a → has_captured texts params (tree a) ≡ false) → false ≡ has_captured texts params (tree r)
   none_captured (node m h rs) n t l f = sym (neither _ _ t (none_of_each rs (λ i a e. f i a (omega (arith, l, slice_get_within (node_list rs) i a e)) e)))
 
 pub ruleset captured_words = (part_smaller, part_captured, head_captured)

@@ -1,3 +1,8 @@
 pub mod NumeralDigits
 pub mod SortLaws
 pub mod CapturedSymbols
+pub mod ApplySteps
+pub mod NameSteps
+pub mod IndexedSteps
+pub mod SortSteps
+pub mod ReadyKept

@@ -1,19 +1,19 @@
 -- Each sort has exactly one outcome, and declares no name.
-use Rattle.std.proofs.Common.{◌≡◌, ℕ, zero, suc, arith, ap, ◌<◌, ◌≤◌, ◌^◌, not, List, [], ◌∷◌, ◌⊎◌, length, inl, inr, refl}
+use Rattle.std.proofs.Common.{◌≡◌, ℕ, zero, suc, arith, ap, ◌≤◌, List, [], ◌⊎◌, inl, inr, refl}
 use Rattle.sig_table.specs.declared.theories.Theories.{Theories}
 use Rattle.lex_core.specs.declared.place.Place.{Place}
 use Rattle.lex_core.specs.declared.token.Tok.{Tok}
-use Rattle.judgement.specs.Judging.{Judging, Outcome, well_sorted, ill_sorted, Lawful, DeclaresNone}
+use Rattle.judgement.specs.Judging.{well_sorted, ill_sorted, Lawful, DeclaresNone}
 use Rattle.judgement.proofs.JudgementLaws.{lawful-done, lawful-check, lawful-find, lawful-then, test_decided, option_decided, value_or_fault, value_once, never_both, fault_once}
 use Rattle.judgement.proofs.NamesKept.{none-done, none-check, none-find, none-then}
 use Rattle.term_grammar.specs.Syntax as syntax
-use Rattle.term_grammar.specs.Syntax.{Identifier, symbol, indexed, named_sort, applied_sort, Sorts, with_sort}
-use Rattle.sort_store.specs.Tree.{Sort, sort, sorts, node_count}
+use Rattle.term_grammar.specs.Syntax.{Identifier, symbol, indexed, identifier_at, named_sort, applied_sort, Sorts, with_sort}
+use Rattle.sort_store.specs.Tree.{Sort}
 use Rattle.scope_stack.specs.Environment.{Environment}
 use Rattle.typer.specs.SortSymbols.{Meaning, symbol_of, definition_of, meaning}
-use Rattle.typer.specs.SortRules.{only_numeral, judge_meaning, judge_identifier, judge_indexed, identifier_at, judge_sort, judge_sorts, SortOf, SortFault}
+use Rattle.typer.specs.SortRules.{only_numeral, judge_meaning, judge_identifier, judge_indexed, judge_sort, judge_sorts, SortOf, SortFault}
 
-at_most : (m n : ℕ) → (m ≤ n) ⊎ (m ≤ n → ⊥)
+pub at_most : (m n : ℕ) → (m ≤ n) ⊎ (m ≤ n → ⊥)
 at_most zero n = inl (omega arith)
 at_most (suc m) zero = inr (λ h. omega (arith, h))
 at_most (suc m) (suc n) = elim (at_most m n) [ inl h ↦ inl (omega (arith, h)) | inr differs ↦ inr (λ h. differs (omega (arith, h))) ]
@@ -27,18 +27,18 @@ same_number (suc m) (suc n) = elim (same_number m n) [ inl h ↦ inl (ap suc h) 
 module _ (texts : List (List ℕ)) (scopes : Environment) (theories : Theories) (params : List ℕ) where
   lawful-indexed : (t : Tok) (is : List Tok) (at : ℕ) (args : List Sort) → Lawful (judge_indexed texts theories at args t is)
   lawful-indexed t is at args =
-    lawful-then _ _ (lawful-check _ _ _ (test_decided _)) (λ _. lawful-then _ _ (lawful-check _ _ _ (same_number _ _)) (λ _. lawful-then _ _ (lawful-find _ _ _ (option_decided (only_numeral is)))
-    (λ i. lawful-then _ _ (lawful-check _ _ _ (at_most _ _)) (λ _. lawful-then _ _ (lawful-check _ _ _ (at_most _ _)) (λ _. lawful-done _)))))
+      lawful-then _ _ (lawful-check _ _ _ (test_decided _)) (λ _. lawful-then _ _ (lawful-check _ _ _ (same_number _ _)) (λ _. lawful-then _ _ (lawful-find _ _ _ (option_decided (only_numeral is)))
+      (λ i. lawful-then _ _ (lawful-check _ _ _ (at_most _ _)) (λ _. lawful-then _ _ (lawful-check _ _ _ (at_most _ _)) (λ _. lawful-done _)))))
 
   lawful-meaning : (m : Meaning) (at : ℕ) (args : List Sort) → Lawful (judge_meaning texts params at args m)
   lawful-meaning (symbol_of h arity) at args =
-    lawful-then _ _ (lawful-check _ _ _ (same_number _ _)) (λ _. lawful-then _ _ (lawful-check _ _ _ (at_most _ _)) (λ _. lawful-done _))
+      lawful-then _ _ (lawful-check _ _ _ (same_number _ _)) (λ _. lawful-then _ _ (lawful-check _ _ _ (at_most _ _)) (λ _. lawful-done _))
   lawful-meaning (definition_of arity body) at args =
-    lawful-then _ _ (lawful-check _ _ _ (same_number _ _)) (λ _. lawful-then _ _ (lawful-check _ _ _ (at_most _ _)) (λ _. lawful-then _ _ (lawful-check _ _ _ (test_decided _)) (λ _. lawful-done _)))
+      lawful-then _ _ (lawful-check _ _ _ (same_number _ _)) (λ _. lawful-then _ _ (lawful-check _ _ _ (at_most _ _)) (λ _. lawful-then _ _ (lawful-check _ _ _ (test_decided _)) (λ _. lawful-done _)))
 
   lawful-identifier : (i : Identifier) (at : ℕ) (args : List Sort) → Lawful (judge_identifier texts scopes theories params at args i)
   lawful-identifier (symbol t) at args =
-    lawful-then _ _ (lawful-find _ _ _ (option_decided (meaning texts scopes theories params t.name))) (λ m. lawful-meaning m at args)
+      lawful-then _ _ (lawful-find _ _ _ (option_decided (meaning texts scopes theories params t.name))) (λ m. lawful-meaning m at args)
   lawful-identifier (indexed _ t is) at args = lawful-indexed t is at args
 
   mutual
@@ -53,12 +53,12 @@ module _ (texts : List (List ℕ)) (scopes : Environment) (theories : Theories) 
   none-meaning : (m : Meaning) (at : ℕ) (args : List Sort) → DeclaresNone (judge_meaning texts params at args m)
   none-meaning (symbol_of h arity) at args = none-then _ _ (none-check _ _ _) (λ _. none-then _ _ (none-check _ _ _) (λ _. none-done _))
   none-meaning (definition_of arity body) at args =
-    none-then _ _ (none-check _ _ _) (λ _. none-then _ _ (none-check _ _ _) (λ _. none-then _ _ (none-check _ _ _) (λ _. none-done _)))
+      none-then _ _ (none-check _ _ _) (λ _. none-then _ _ (none-check _ _ _) (λ _. none-then _ _ (none-check _ _ _) (λ _. none-done _)))
 
   none-identifier : (i : Identifier) (at : ℕ) (args : List Sort) → DeclaresNone (judge_identifier texts scopes theories params at args i)
   none-identifier (symbol t) at args = none-then _ _ (none-find _ _ _) (λ m. none-meaning m at args)
   none-identifier (indexed _ t is) at args =
-    none-then _ _ (none-check _ _ _) (λ _. none-then _ _ (none-check _ _ _) (λ _. none-then _ _ (none-find _ _ _) (λ i. none-then _ _ (none-check _ _ _) (λ _. none-then _ _ (none-check _ _ _) (λ _. none-done _)))))
+      none-then _ _ (none-check _ _ _) (λ _. none-then _ _ (none-check _ _ _) (λ _. none-then _ _ (none-find _ _ _) (λ i. none-then _ _ (none-check _ _ _) (λ _. none-then _ _ (none-check _ _ _) (λ _. none-done _)))))
 
   mutual
     pub none-sort : (s : syntax.Sort) → DeclaresNone (judge_sort texts scopes theories params s)
@@ -83,6 +83,6 @@ module _ (texts : List (List ℕ)) (scopes : Environment) (theories : Theories) 
   sort_decided s = by (value_or_fault _ (lawful-sort s) [])
     where
       by : ((t : Sort) × (after : List ℕ) × judge_sort texts scopes theories params s [] (well_sorted t after)) ⊎ ((place : Place) × judge_sort texts scopes theories params s [] (ill_sorted place))
-        → ((t : Sort) × SortOf texts scopes theories params s t) ⊎ ((place : Place) × SortFault texts scopes theories params s place)
+          → ((t : Sort) × SortOf texts scopes theories params s t) ⊎ ((place : Place) × SortFault texts scopes theories params s place)
       by (inl (t, after, h)) = inl (t, (none-sort s [] (well_sorted t after) h).1)
       by (inr (place, h)) = inr (place, none-sort s [] (ill_sorted place) h)

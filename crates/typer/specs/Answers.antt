@@ -1,5 +1,7 @@
 -- What a call that judges sorts answers.
 use Rattle.std.specs.Prelude.{ℕ, List, map, Result, Ok, Err, ⊤}
+use Rattle.std.specs.Prelude.{Vec}
+use Rattle.std.specs.Global.{Global}
 use Rattle.judgement.specs.Judging.{Judging, well_sorted, ill_sorted}
 use Rattle.sort_store.specs.Tree.{Sort, NumberedSort, tree}
 use Rattle.typer.specs.declared.error.TyError.{TyError}
@@ -16,3 +18,7 @@ Answers (Err error.NoMemory) J = ⊤
 abbrev pub tree_answer : Result NumberedSort TyError → Result Sort TyError
 tree_answer (Ok r) = Ok (tree r)
 tree_answer (Err e) = Err e
+
+abbrev pub trees_answer : Result (Vec NumberedSort Global) TyError → Result (List Sort) TyError
+trees_answer (Ok v) = Ok (map tree v.items)
+trees_answer (Err e) = Err e

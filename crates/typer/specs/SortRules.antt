@@ -1,5 +1,5 @@
 -- The rules on sorts (SMT-LIB 2.6, section 3.5): one list of items for each production.
-use Rattle.std.specs.Prelude.{◌≡◌, ℕ, ◌<◌, ◌≤◌, ◌^◌, ◌==◌, Bool, true, false, not, ◌||◌, IsTrue, if◌then◌else◌, List, [], ◌∷◌, codes, Option, Some, None, length, slice_index_or}
+use Rattle.std.specs.Prelude.{◌≡◌, ℕ, ◌<◌, ◌≤◌, ◌^◌, ◌==◌, Bool, false, not, ◌||◌, IsTrue, if◌then◌else◌, List, [], ◌∷◌, codes, Option, Some, None, length, slice_index_or}
 use Rattle.std.specs.List.{list_any}
 use Rattle.sig_table.specs.declared.code.Code.TheVariants.{UnknownSort, WrongSortArity, WrongIndex, NumberTooLarge, SortTooLarge, CapturedSortParameter}
 use Rattle.sig_table.specs.declared.theories.Theories.{Theories}
@@ -8,7 +8,7 @@ use Rattle.lex_core.specs.declared.token.Tok.{Tok}
 use Rattle.judgement.specs.Judging.{Judging, well_sorted, ill_sorted, done, ◌>>=◌, check, find}
 use Rattle.term_grammar.specs.Words.{is_numeral}
 use Rattle.term_grammar.specs.Syntax as syntax
-use Rattle.term_grammar.specs.Syntax.{Identifier, symbol, indexed, named_sort, applied_sort, Sorts, with_sort}
+use Rattle.term_grammar.specs.Syntax.{Identifier, symbol, indexed, identifier_at, named_sort, applied_sort, Sorts, with_sort}
 use Rattle.sort_store.specs.declared.head.Head.{Head}
 use Rattle.sort_store.specs.declared.head.Head.TheVariants as head
 use Rattle.sort_store.specs.Tree.{Sort, sort, SortList, no_sorts, more_sorts, sorts, node_count}
@@ -75,17 +75,16 @@ judge_indexed texts theories at args t is = do
   _ ← check (1 ≤ index_value texts i) WrongIndex at
   done (sort (head.BitVec (index_value texts i)) no_sorts)
 
+-- a symbol with arguments that are judged already
+abbrev pub judge_name : List (List ℕ) → Environment → Theories → List ℕ → ℕ → List Sort → ℕ → Judging Sort
+judge_name texts scopes theories params at args name = do
+  m ← find (λ m. meaning texts scopes theories params name ≡ Some m) UnknownSort at
+  judge_meaning texts params at args m
+
 -- an identifier with arguments that are judged already
 abbrev pub judge_identifier : List (List ℕ) → Environment → Theories → List ℕ → ℕ → List Sort → Identifier → Judging Sort
-judge_identifier texts scopes theories params at args (symbol t) = do
-  m ← find (λ m. meaning texts scopes theories params t.name ≡ Some m) UnknownSort at
-  judge_meaning texts params at args m
+judge_identifier texts scopes theories params at args (symbol t) = judge_name texts scopes theories params at args t.name
 judge_identifier texts scopes theories params at args (indexed _ t is) = judge_indexed texts theories at args t is
-
--- the byte where an identifier begins
-abbrev pub identifier_at : Identifier → ℕ
-identifier_at (symbol t) = t.at
-identifier_at (indexed at t is) = at
 
 -- a sort under a table of texts, the live sort symbols, the theories of the logic and the parameters of the command
 abbrev mutual

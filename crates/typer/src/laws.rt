@@ -18,5 +18,4 @@ pub fn sort_laws()
         → SortOf texts scopes theories params raw t → SortOf texts scopes theories params raw u → t ≡ u }
     ensures fault_once { (texts : List (List ℕ)) (scopes : Environment) (theories : Theories) (params : List ℕ) (raw : syntax.Sort) (p q : Place)
         → SortFault texts scopes theories params raw p → SortFault texts scopes theories params raw q → p ≡ q }
-{
-}
+{}

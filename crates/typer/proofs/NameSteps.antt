@@ -1,0 +1,62 @@
+-- What a name stands for, and what that says of a sort with this name.
+use Rattle.std.proofs.Common.{◌≡◌, ℕ, zero, suc, ◌==◌, List, [], ◌∷◌, Option, Some, None, Result, Ok, Err, refl, ap, ◌∙◌, arith, inl, inr, subst}
+use Rattle.std.specs.Option.{option_map}
+use Rattle.std.specs.List.{All, position}
+use Rattle.std.specs.Map.{lookup}
+use Rattle.std.proofs.lemmas.Bool.{cases_Bool}
+use Rattle.sort_store.specs.declared.head.Head.TheVariants as head
+use Rattle.sort_store.specs.Tree.{Sort, NumberedSort, tree}
+use Rattle.sort_store.specs.Instance.{ParamsBelow}
+use Rattle.scope_stack.specs.declared.entry.SortEntry.{SortEntry}
+use Rattle.scope_stack.specs.declared.entry.SortEntry.TheVariants as entry
+use Rattle.scope_stack.specs.Levels.{found, is_name, live}
+use Rattle.typer.specs.declared.error.TyError.{TyError}
+use Rattle.typer.specs.declared.error.TyError.TheVariants as error
+use Rattle.typer.specs.declared.world.World.{World}
+use Rattle.typer.specs.Answers.{Answers}
+use Rattle.typer.specs.Ready.{IsReady, IsReadySort}
+use Rattle.typer.specs.SortSymbols.{Meaning, symbol_of, theory_symbol, declared_symbol, meaning, or_else}
+use Rattle.typer.specs.SortRules.{judge_meaning, judge_name}
+
+module _ {X : Type 0} (P : ℕ × X → Type 0) (name : ℕ) where
+  lookup_all : (xs : List (ℕ × X)) (v : X) → All P xs → lookup (is_name name) xs ≡ Some v → (n : ℕ) × P (n, v)
+  lookup_all [] v h e = cc
+  lookup_all (x ∷ xs) v h e = elim (cases_Bool (is_name name x.0)) [
+    | inl same ↦ (let s : x.1 ≡ v = cc in (x.0, subst (λ z. P (x.0, z)) s (h zero x (omega arith))))
+    | inr other ↦ lookup_all xs v (λ k d l. h (suc k) d (omega (arith, l))) (let s : lookup (is_name name) xs ≡ Some v = cc in s)
+  ]
+
+-- a live defined sort has no parameter past its count
+pub ready_found : (world : World) (name params : ℕ) (r : NumberedSort) → IsReady world → found name world.scopes.sorts ≡ Some (entry.Defined params r) → ParamsBelow params (tree r)
+ready_found world name params r ready e = (lookup_all (IsReadySort world) name (live world.scopes.sorts) (entry.Defined params r) ready.sorts e).1.entry.params_below
+
+module _ (world : World) (params : List ℕ) (name : ℕ) where
+  abbrev meant : Option Meaning
+  meant = meaning world.names world.scopes world.theories params name
+
+  abbrev of_theory : Option Meaning
+  of_theory = theory_symbol world.names world.theories name
+
+  abbrev of_scopes : Option Meaning
+  of_scopes = option_map (declared_symbol name) (found name world.scopes.sorts)
+
+  abbrev position_of : Option ℕ
+  position_of = position (λ p. p == name) params
+
+  abbrev from_position : Option ℕ → Option Meaning
+  from_position o = or_else (option_map (λ i. symbol_of (head.Param i) 0) o) (or_else of_theory of_scopes)
+
+  pub parameter_means : (i : ℕ) → position_of ≡ Some i → meant ≡ Some (symbol_of (head.Param i) 0)
+  parameter_means i e = ap from_position e
+
+  pub theory_means : (m : Meaning) → position_of ≡ None → of_theory ≡ Some m → meant ≡ Some m
+  theory_means m e f = ap from_position e ∙ ap (λ z. or_else z of_scopes) f
+
+  pub live_means : (d : Option SortEntry) → position_of ≡ None → of_theory ≡ None → found name world.scopes.sorts ≡ d → meant ≡ option_map (declared_symbol name) d
+  live_means d e f g = ap from_position e ∙ ap (λ z. or_else z of_scopes) f ∙ ap (option_map (declared_symbol name)) g
+
+  pub name_step : (at : ℕ) (args : List Sort) (m : Meaning) (r : Result Sort TyError) → meant ≡ Some m
+      → Answers r (judge_meaning world.names params at args m) → Answers r (judge_name world.names world.scopes world.theories params at args name)
+  name_step at args m (Ok t) e h = λ before. (m, before, (e, refl), h before)
+  name_step at args m (Err (error.Fault place)) e h = λ before. inr (m, before, (e, refl), h before)
+  name_step at args m (Err error.NoMemory) e h = tt

@@ -1,0 +1,54 @@
+use Rattle.std.proofs.Common.{sym, ap, subst, arith, map}
+use Rattle.sort_store.specs.Tree.{tree}
+use Rattle.sort_store.proofs.GrownStores.{grows_more, all_interned_push, all_interned_grown}
+use Rattle.sort_store.specs.Interned.{AllInterned}
+use Rattle.typer.specs.Names.{AreNames, IsSortNamed, AreSortsNamed}
+use Rattle.typer.specs.Answers.{Answers, tree_answer}
+use Rattle.typer.proofs.SortSteps.{sizes, left, left_is, others_more, applied_shown, applied_step, moved_identifier, identifier_in, turn_step, turn_fault, no_turn}
+use Rattle.typer.proofs.sorts.+sorts.Goals as goal
+
+pub type_sort-returns-in-Ok-clause-answer : goal.type_sort-returns-in-Ok-clause-answer
+type_sort-returns-in-Ok-clause-answer t c =
+    let shown = applied_shown c.args.raw c.in-Applied.identifier c.in-Applied.args c.in-Applied.ensures in
+    applied_step c.args.world.now c.args.params.now c.args.raw shown.0 c.at-at.result c.in-Applied.identifier c.in-Applied.args (map tree c.in-Ok.args.items) (tree_answer c.identifier_sort-in-Applied.result) shown.1 c.at-at.ensures
+    c.in-Ok.ensures.answer
+    (moved_identifier c.args.world.now c.type_sorts.new.world c.in-Ok.ensures.others c.args.params.now c.at-at.result (map tree c.in-Ok.args.items) c.in-Applied.identifier (tree_answer c.identifier_sort-in-Applied.result)
+    (subst (λ rs. Answers (tree_answer c.identifier_sort-in-Applied.result) (identifier_in c.type_sorts.new.world c.args.params.now c.at-at.result (map tree rs) c.in-Applied.identifier)) c.deref.ensures.value
+    c.identifier_sort-in-Applied.ensures.answer))
+
+pub type_sorts-type_sort-requires : goal.type_sorts-type_sort-requires
+type_sorts-type_sort-requires t c =
+    let named = subst (λ z. AreSortsNamed c.args.world.now.names (left z)) c.in-Some.is c.loop-next.invariant.named in (
+      omega (arith, c.decreases, c.loop-next.invariant.smaller, ap sizes (ap left c.in-Some.is)),
+      (
+        c.loop-next.invariant.ready,
+        (
+          subst (λ w. AreNames w.names c.args.params.now) (sym c.loop-next.invariant.others) c.requires.params,
+          subst (λ w. IsSortNamed w.names c.in-Some.first) (sym c.loop-next.invariant.others) named.0,
+        ),
+      ),
+    )
+
+pub type_sorts-returns-in-Err-clause-answer : goal.type_sorts-returns-in-Err-clause-answer
+type_sorts-returns-in-Err-clause-answer t c =
+    turn_fault c.args.world.now c.loop-next.world c.loop-next.invariant.others c.args.params.now c.args.raws (left c.loop-next.next) c.in-Some.rest c.in-Some.first c.loop-next.sorts.items
+    (ap left c.in-Some.is) c.loop-next.invariant.onward c.in-Err.e c.in-Err.ensures.answer
+
+pub type_sorts-loop-next-preserved : goal.type_sorts-loop-next-preserved
+type_sorts-loop-next-preserved t c =
+    let named = subst (λ z. AreSortsNamed c.args.world.now.names (left z)) c.in-Some.is c.loop-next.invariant.named in
+    let rest = left_is _ _ c.split-next-in-Some.ensures in
+    record {
+      onward = turn_step c.args.world.now c.loop-next.world c.loop-next.invariant.others c.args.params.now c.args.raws (left c.loop-next.next) c.in-Some.rest c.in-Some.first c.loop-next.sorts.items
+          (ap left c.in-Some.is) c.loop-next.invariant.onward c.split-next-in-Some.result _ c.in-Ok.sort c.split-next-in-Some.ensures c.in-Ok.ensures.answer c.in-Ok-push.ensures.items;
+      interned = subst (AllInterned c.type_sort.new.world.sorts) (sym c.in-Ok-push.ensures.items)
+          (all_interned_push _ _ _ (all_interned_grown c.loop-next.world.sorts _ _ c.in-Ok.ensures.grows c.loop-next.invariant.interned) c.in-Ok.ensures.interned);
+      grows = grows_more c.args.world.now.sorts c.loop-next.world.sorts _ c.loop-next.invariant.grows c.in-Ok.ensures.grows;
+      others = others_more c.args.world.now c.loop-next.world _ c.loop-next.invariant.others c.in-Ok.ensures.others;
+      ready = c.in-Ok.ensures.ready;
+      named = subst (AreSortsNamed c.args.world.now.names) (sym rest) named.1;
+      smaller = omega (arith, c.loop-next.invariant.smaller, ap sizes (ap left c.in-Some.is), ap sizes rest);
+    }
+
+pub type_sorts-returns-clause-answer : goal.type_sorts-returns-clause-answer
+type_sorts-returns-clause-answer t c = no_turn c.args.world.now c.args.params.now c.args.raws (left c.loop-next.next) c.loop-next.sorts.items (ap left c.in_default.is) c.loop-next.invariant.onward
