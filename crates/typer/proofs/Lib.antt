@@ -6,3 +6,4 @@ pub mod NameSteps
 pub mod IndexedSteps
 pub mod SortSteps
 pub mod ReadyKept
+pub mod SortsReady

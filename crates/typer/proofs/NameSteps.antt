@@ -4,9 +4,10 @@ use Rattle.std.specs.Option.{option_map}
 use Rattle.std.specs.List.{All, position}
 use Rattle.std.specs.Map.{lookup}
 use Rattle.std.proofs.lemmas.Bool.{cases_Bool}
+use Rattle.sort_store.specs.declared.head.Head.{Head}
 use Rattle.sort_store.specs.declared.head.Head.TheVariants as head
-use Rattle.sort_store.specs.Tree.{Sort, NumberedSort, tree}
-use Rattle.sort_store.specs.Instance.{ParamsBelow}
+use Rattle.sort_store.specs.Tree.{Sort, sort, SortList, no_sorts, more_sorts, NumberedSort, tree}
+use Rattle.sort_store.specs.Instance.{param_of, IsBelow, ParamsBelow, EachParamsBelow}
 use Rattle.scope_stack.specs.declared.entry.SortEntry.{SortEntry}
 use Rattle.scope_stack.specs.declared.entry.SortEntry.TheVariants as entry
 use Rattle.scope_stack.specs.Levels.{found, is_name, live}
@@ -14,7 +15,7 @@ use Rattle.typer.specs.declared.error.TyError.{TyError}
 use Rattle.typer.specs.declared.error.TyError.TheVariants as error
 use Rattle.typer.specs.declared.world.World.{World}
 use Rattle.typer.specs.Answers.{Answers}
-use Rattle.typer.specs.Ready.{IsReady, IsReadySort}
+use Rattle.typer.specs.Ready.{IsReady, IsReadySort, IsReadySortEntry, IsReadyHead, IsReadyTree, AreReadyTrees}
 use Rattle.typer.specs.SortSymbols.{Meaning, symbol_of, theory_symbol, declared_symbol, meaning, or_else}
 use Rattle.typer.specs.SortRules.{judge_meaning, judge_name}
 
@@ -26,9 +27,30 @@ module _ {X : Type 0} (P : ℕ × X → Type 0) (name : ℕ) where
     | inr other ↦ lookup_all xs v (λ k d l. h (suc k) d (omega (arith, l))) (let s : lookup (is_name name) xs ≡ Some v = cc in s)
   ]
 
+-- a live sort symbol is as its world keeps it
+pub sort_found : (world : World) (name : ℕ) (d : SortEntry) → IsReady world → found name world.scopes.sorts ≡ Some d → IsReadySortEntry world d
+sort_found world name d ready e = (lookup_all (IsReadySort world) name (live world.scopes.sorts) d ready.sorts e).1.entry
+
+mutual
+  params_below : (texts : List (List ℕ)) (params : ℕ) (t : Sort) → IsReadyTree texts params t → ParamsBelow params t
+  params_below texts params (sort h ts) r = (head_below h r.0, each_below texts params ts r.1)
+    where
+      head_below : (h : Head) → IsReadyHead texts params h → IsBelow params (param_of h)
+      head_below (head.Param i) r = r
+      head_below head.Bool r = tt
+      head_below head.Int r = tt
+      head_below head.Array r = tt
+      head_below (head.BitVec m) r = tt
+      head_below (head.Free number name) r = tt
+      head_below (head.Data number name) r = tt
+
+  each_below : (texts : List (List ℕ)) (params : ℕ) (ts : SortList) → AreReadyTrees texts params ts → EachParamsBelow params ts
+  each_below texts params no_sorts r = tt
+  each_below texts params (more_sorts t ts) r = (params_below texts params t r.0, each_below texts params ts r.1)
+
 -- a live defined sort has no parameter past its count
 pub ready_found : (world : World) (name params : ℕ) (r : NumberedSort) → IsReady world → found name world.scopes.sorts ≡ Some (entry.Defined params r) → ParamsBelow params (tree r)
-ready_found world name params r ready e = (lookup_all (IsReadySort world) name (live world.scopes.sorts) (entry.Defined params r) ready.sorts e).1.entry.params_below
+ready_found world name params r ready e = params_below world.names params (tree r) (sort_found world name (entry.Defined params r) ready e).ready
 
 module _ (world : World) (params : List ℕ) (name : ℕ) where
   abbrev meant : Option Meaning

@@ -11,7 +11,7 @@ use Rattle.sort_store.specs.Tree.{Sort, NumberedSort, tree}
 use Rattle.typer.specs.declared.error.TyError.{TyError}
 use Rattle.typer.specs.declared.error.TyError.TheVariants as error
 use Rattle.typer.specs.declared.world.World.{World}
-use Rattle.typer.specs.Answers.{Answers}
+use Rattle.typer.specs.Answers.{Answers, tree_answer}
 use Rattle.typer.specs.SortRules.{judge_sort, judge_sorts, judge_identifier}
 
 -- how many parts a raw sort has, itself among them
@@ -104,6 +104,10 @@ pub applied_shown : (raw : syntax.Sort) (i : Identifier) (ss : Sorts) → kind.A
 applied_shown (named_sort j) i ss e = cc
 applied_shown (applied_sort at j us) i ss e = let p : j ≡ i = cc in let q : us ≡ ss = cc in (at, ap (λ z. applied_sort at z us) p ∙ ap (applied_sort at i) q)
 
+pub identifier_shown : (raw : syntax.Sort) (i : Identifier) → kind.Identifier i ≡ sort_kind raw → raw ≡ named_sort i
+identifier_shown (named_sort j) i e = let p : j ≡ i = cc in ap named_sort p
+identifier_shown (applied_sort at j us) i e = cc
+
 pub left_is : (ss : Sorts) (next : Option (syntax.Sort × Sorts)) → SplitsSorts ss next → left next ≡ ss
 left_is ss None e = sym e
 left_is ss (Some p) e = sym e
@@ -138,3 +142,16 @@ pub no_turn : (old : World) (params : List ℕ) (whole ss : Sorts) (made : List 
     → Answers (Ok (map tree made)) (sorts_in old params whole)
 no_turn old params whole ss made e onward before =
     subst (λ ts. sorts_in old params whole before (well_sorted ts before)) (append-nil (map tree made)) (onward before (well_sorted [] before) (sorts_done old params ss before e))
+
+-- the answer in the world before the call
+pub of_identifier : (old : World) (params : List ℕ) (raw : syntax.Sort) (i : Identifier) (at : ℕ) (r : Result NumberedSort TyError) → kind.Identifier i ≡ sort_kind raw → at ≡ syntax.sort_at raw
+    → Answers (tree_answer r) (identifier_in old params at [] i) → Answers (tree_answer r) (sort_in old params raw)
+of_identifier old params raw i at r shown e h = named_step old params raw i at (tree_answer r) (identifier_shown raw i shown) e h
+
+pub of_applied : (old mid : World) (params : List ℕ) (raw : syntax.Sort) (i : Identifier) (ss : Sorts) (at : ℕ) (rs slice : List NumberedSort) (r : Result NumberedSort TyError)
+    → kind.Applied i ss ≡ sort_kind raw → at ≡ syntax.sort_at raw → OthersStay old mid → Answers (Ok (map tree rs)) (sorts_in old params ss) → slice ≡ rs
+    → Answers (tree_answer r) (identifier_in mid params at (map tree slice) i) → Answers (tree_answer r) (sort_in old params raw)
+of_applied old mid params raw i ss at rs slice r shown e others h same k =
+    let found = applied_shown raw i ss shown in
+    applied_step old params raw found.0 at i ss (map tree rs) (tree_answer r) found.1 e h
+    (moved_identifier old mid others params at (map tree rs) i (tree_answer r) (subst (λ z. Answers (tree_answer r) (identifier_in mid params at (map tree z) i)) same k))

@@ -1,9 +1,10 @@
--- What a world keeps: its table has the names of the live declarations, its store has the sorts that stand in them, and
--- these have no parameter past the number that the declaration gives.
+-- What a world keeps: its table has the names of the live declarations and of the sorts that stand in them, its store has
+-- these sorts, and they have no parameter past the number that the declaration gives.
 use Rattle.std.specs.Prelude.{◌≡◌, ℕ, ◌<◌, Bool, true, false, not, IsTrue, List, length, ⊤}
 use Rattle.std.specs.List.{All}
-use Rattle.sort_store.specs.Tree.{Sort, NumberedSort, tree}
-use Rattle.sort_store.specs.Instance.{ParamsBelow}
+use Rattle.sort_store.specs.declared.head.Head.{Head}
+use Rattle.sort_store.specs.declared.head.Head.TheVariants as head
+use Rattle.sort_store.specs.Tree.{Sort, sort, SortList, no_sorts, more_sorts, NumberedSort, tree}
 use Rattle.sort_store.specs.Interned.{IsInterned}
 use Rattle.scope_stack.specs.declared.entry.FunEntry.{FunEntry}
 use Rattle.scope_stack.specs.declared.entry.FunKind.{FunKind}
@@ -14,15 +15,31 @@ use Rattle.scope_stack.specs.Levels.{live}
 use Rattle.typer.specs.declared.world.World.{World}
 use Rattle.typer.specs.SortSymbols.{is_theory_sort}
 
--- a sort of a declaration with this number of parameters
-pub record IsReadySchema (store : List Sort) (params : ℕ) (r : NumberedSort) : Type 0 where
-  pub interned : IsInterned store r
-  pub params_below : ParamsBelow params (tree r)
+-- the name of the sort symbol is in the table, and a parameter is below the number
+abbrev pub IsReadyHead : List (List ℕ) → ℕ → Head → Type 0
+IsReadyHead texts params (head.Free number name) = name < length texts
+IsReadyHead texts params (head.Data number name) = name < length texts
+IsReadyHead texts params (head.Param i) = i < params
+IsReadyHead texts params _ = ⊤
 
-abbrev pub IsReadySortEntry : List Sort → SortEntry → Type 0
-IsReadySortEntry store (entry.Free number arity) = ⊤
-IsReadySortEntry store (entry.Data number arity) = ⊤
-IsReadySortEntry store (entry.Defined params sort) = IsReadySchema store params sort
+-- .. so for each sort symbol of the sort
+abbrev mutual
+  pub IsReadyTree : List (List ℕ) → ℕ → Sort → Type 0
+  IsReadyTree texts params (sort h ts) = IsReadyHead texts params h × AreReadyTrees texts params ts
+
+  pub AreReadyTrees : List (List ℕ) → ℕ → SortList → Type 0
+  AreReadyTrees texts params no_sorts = ⊤
+  AreReadyTrees texts params (more_sorts t ts) = IsReadyTree texts params t × AreReadyTrees texts params ts
+
+-- a sort of a declaration with this number of parameters: the store has it, and the table its names
+pub record IsReadySchema (world : World) (params : ℕ) (r : NumberedSort) : Type 0 where
+  pub interned : IsInterned world.sorts r
+  pub ready : IsReadyTree world.names params (tree r)
+
+abbrev pub IsReadySortEntry : World → SortEntry → Type 0
+IsReadySortEntry world (entry.Free number arity) = ⊤
+IsReadySortEntry world (entry.Data number arity) = ⊤
+IsReadySortEntry world (entry.Defined params body) = IsReadySchema world params body
 
 -- constructors and selectors may have parameters, those of their datatype
 abbrev pub may_have_params : FunKind → Bool
@@ -30,20 +47,20 @@ may_have_params kind.Constructor = true
 may_have_params kind.Selector = true
 may_have_params _ = false
 
-pub record IsReadyFunEntry (store : List Sort) (f : FunEntry) : Type 0 where
-  pub args : All (IsReadySchema store f.params) f.args
-  pub result : IsReadySchema store f.params f.result
+pub record IsReadyFunEntry (world : World) (f : FunEntry) : Type 0 where
+  pub args : All (IsReadySchema world f.params) f.args
+  pub result : IsReadySchema world f.params f.result
   pub params : may_have_params f.kind ≡ false → f.params ≡ 0
 
 -- a live sort symbol, whose name Core and the theories don't use
 pub record IsReadySort (world : World) (d : ℕ × SortEntry) : Type 0 where
   pub name : d.0 < length world.names
   pub no_theory_sort : IsTrue (not (is_theory_sort world.names world.theories d.0))
-  pub entry : IsReadySortEntry world.sorts d.1
+  pub entry : IsReadySortEntry world d.1
 
 pub record IsReadyFun (world : World) (d : ℕ × FunEntry) : Type 0 where
   pub name : d.0 < length world.names
-  pub entry : IsReadyFunEntry world.sorts d.1
+  pub entry : IsReadyFunEntry world d.1
 
 pub record IsReady (world : World) : Type 0 where
   pub sorts : All (IsReadySort world) (live world.scopes.sorts)

@@ -5,7 +5,7 @@ ghost use Rattle.sort_store.specs.Interned.{IsInterned, AllInterned, HasNoRepeat
 ghost use Rattle.sort_store.specs.Tree.{tree};
 ghost use Rattle.typer.specs.Answers.{Answers, tree_answer, trees_answer};
 ghost use Rattle.typer.specs.Names.{AreNames, IsIdentifierNamed, IsSortNamed, AreSortsNamed};
-ghost use Rattle.typer.specs.Ready.{IsReady};
+ghost use Rattle.typer.specs.Ready.{IsReady, IsReadySchema};
 ghost use Rattle.typer.specs.SortRules.{only_numeral as only_numeral_of, judge_sort, judge_sorts, judge_identifier, judge_name, judge_indexed};
 
 use crate::apply::{definition_sort, symbol_sort};
@@ -203,7 +203,9 @@ pub fn type_sort(world: &mut World, params: &[NameId], raw: RawSort) -> Result<S
     requires names { IsSortNamed world.old.names raw }
     ensures answer { Answers (tree_answer result)
         (judge_sort world.old.names world.old.scopes world.old.theories params.now raw.entry) }
-    ensures interned { IfOk result (λ r. IsInterned world.new.sorts r) }
+
+    // The sort may stand in a declaration with these parameters.
+    ensures schema { IfOk result (λ r. IsReadySchema world.new (length params.now) r) }
     ensures distinct { OnOk result (HasNoRepeats world.new.sorts) }
     ensures grows { Grows world.old.sorts world.new.sorts }
     ensures others { world.new ≡ record world.old { sorts = world.new.sorts } }

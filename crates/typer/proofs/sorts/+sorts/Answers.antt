@@ -1,20 +1,29 @@
-use Rattle.std.proofs.Common.{sym, ap, subst, arith, map}
-use Rattle.sort_store.specs.Tree.{tree}
+use Rattle.std.proofs.Common.{sym, ap, subst, arith}
 use Rattle.sort_store.proofs.GrownStores.{grows_more, all_interned_push, all_interned_grown}
 use Rattle.sort_store.specs.Interned.{AllInterned}
 use Rattle.typer.specs.Names.{AreNames, IsSortNamed, AreSortsNamed}
-use Rattle.typer.specs.Answers.{Answers, tree_answer}
-use Rattle.typer.proofs.SortSteps.{sizes, left, left_is, others_more, applied_shown, applied_step, moved_identifier, identifier_in, turn_step, turn_fault, no_turn}
+use Rattle.typer.proofs.SortSteps.{sizes, left, left_is, others_more, of_identifier, of_applied, turn_step, turn_fault, no_turn}
+use Rattle.typer.proofs.SortsReady.{schema_of}
 use Rattle.typer.proofs.sorts.+sorts.Goals as goal
+
+pub type_sort-returns-in-Identifier-clause-schema : goal.type_sort-returns-in-Identifier-clause-schema
+type_sort-returns-in-Identifier-clause-schema t c =
+    schema_of c.args.world.now c.identifier_sort.new.world c.args.params.now c.args.raw c.identifier_sort.result c.requires.ready c.requires.names c.identifier_sort.ensures.others
+    (of_identifier c.args.world.now c.args.params.now c.args.raw c.in-Identifier.identifier c.at-at.result c.identifier_sort.result c.in-Identifier.ensures c.at-at.ensures c.identifier_sort.ensures.answer)
+    c.identifier_sort.ensures.interned
 
 pub type_sort-returns-in-Ok-clause-answer : goal.type_sort-returns-in-Ok-clause-answer
 type_sort-returns-in-Ok-clause-answer t c =
-    let shown = applied_shown c.args.raw c.in-Applied.identifier c.in-Applied.args c.in-Applied.ensures in
-    applied_step c.args.world.now c.args.params.now c.args.raw shown.0 c.at-at.result c.in-Applied.identifier c.in-Applied.args (map tree c.in-Ok.args.items) (tree_answer c.identifier_sort-in-Applied.result) shown.1 c.at-at.ensures
-    c.in-Ok.ensures.answer
-    (moved_identifier c.args.world.now c.type_sorts.new.world c.in-Ok.ensures.others c.args.params.now c.at-at.result (map tree c.in-Ok.args.items) c.in-Applied.identifier (tree_answer c.identifier_sort-in-Applied.result)
-    (subst (λ rs. Answers (tree_answer c.identifier_sort-in-Applied.result) (identifier_in c.type_sorts.new.world c.args.params.now c.at-at.result (map tree rs) c.in-Applied.identifier)) c.deref.ensures.value
-    c.identifier_sort-in-Applied.ensures.answer))
+    of_applied c.args.world.now c.type_sorts.new.world c.args.params.now c.args.raw c.in-Applied.identifier c.in-Applied.args c.at-at.result c.in-Ok.args.items c.deref.result.now c.identifier_sort-in-Applied.result
+    c.in-Applied.ensures c.at-at.ensures c.in-Ok.ensures.others c.in-Ok.ensures.answer c.deref.ensures.value c.identifier_sort-in-Applied.ensures.answer
+
+pub type_sort-returns-in-Ok-clause-schema : goal.type_sort-returns-in-Ok-clause-schema
+type_sort-returns-in-Ok-clause-schema t c =
+    schema_of c.args.world.now c.identifier_sort-in-Applied.new.world c.args.params.now c.args.raw c.identifier_sort-in-Applied.result c.requires.ready c.requires.names
+    (others_more c.args.world.now c.type_sorts.new.world _ c.in-Ok.ensures.others c.identifier_sort-in-Applied.ensures.others)
+    (of_applied c.args.world.now c.type_sorts.new.world c.args.params.now c.args.raw c.in-Applied.identifier c.in-Applied.args c.at-at.result c.in-Ok.args.items c.deref.result.now c.identifier_sort-in-Applied.result
+    c.in-Applied.ensures c.at-at.ensures c.in-Ok.ensures.others c.in-Ok.ensures.answer c.deref.ensures.value c.identifier_sort-in-Applied.ensures.answer)
+    c.identifier_sort-in-Applied.ensures.interned
 
 pub type_sorts-type_sort-requires : goal.type_sorts-type_sort-requires
 type_sorts-type_sort-requires t c =
@@ -42,7 +51,7 @@ type_sorts-loop-next-preserved t c =
       onward = turn_step c.args.world.now c.loop-next.world c.loop-next.invariant.others c.args.params.now c.args.raws (left c.loop-next.next) c.in-Some.rest c.in-Some.first c.loop-next.sorts.items
           (ap left c.in-Some.is) c.loop-next.invariant.onward c.split-next-in-Some.result _ c.in-Ok.sort c.split-next-in-Some.ensures c.in-Ok.ensures.answer c.in-Ok-push.ensures.items;
       interned = subst (AllInterned c.type_sort.new.world.sorts) (sym c.in-Ok-push.ensures.items)
-          (all_interned_push _ _ _ (all_interned_grown c.loop-next.world.sorts _ _ c.in-Ok.ensures.grows c.loop-next.invariant.interned) c.in-Ok.ensures.interned);
+          (all_interned_push _ _ _ (all_interned_grown c.loop-next.world.sorts _ _ c.in-Ok.ensures.grows c.loop-next.invariant.interned) c.in-Ok.ensures.schema.interned);
       grows = grows_more c.args.world.now.sorts c.loop-next.world.sorts _ c.loop-next.invariant.grows c.in-Ok.ensures.grows;
       others = others_more c.args.world.now c.loop-next.world _ c.loop-next.invariant.others c.in-Ok.ensures.others;
       ready = c.in-Ok.ensures.ready;
