@@ -28,8 +28,8 @@ module _ {X : Type 0} (P : ℕ × X → Type 0) (name : ℕ) where
   ]
 
 -- a live sort symbol is as its world keeps it
-pub sort_found : (world : World) (name : ℕ) (d : SortEntry) → IsReady world → found name world.scopes.sorts ≡ Some d → IsReadySortEntry world d
-sort_found world name d ready e = (lookup_all (IsReadySort world) name (live world.scopes.sorts) d ready.sorts e).1.entry
+pub sort_found : (world : World) (name : ℕ) (d : SortEntry) → IsReady world → found name world.scopes.sorts ≡ Some d → IsReadySortEntry world.names world.sorts d
+sort_found world name d ready e = (lookup_all (IsReadySort world.names world.theories world.sorts) name (live world.scopes.sorts) d ready.sorts e).1.entry
 
 mutual
   params_below : (texts : List (List ℕ)) (params : ℕ) (t : Sort) → IsReadyTree texts params t → ParamsBelow params t

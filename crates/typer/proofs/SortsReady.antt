@@ -74,7 +74,7 @@ module _ (world : World) (params : List ℕ) (ready : IsReady world) where
   parameter_ready None name e = tt
   parameter_ready (Some i) name e = (position-Some (λ p. p == name) params i 0 e).0
 
-  entry_ready : (name : ℕ) (d : SortEntry) → name < length world.names → IsReadySortEntry world d → IsReadyMeaning world.names (length params) (declared_symbol name d)
+  entry_ready : (name : ℕ) (d : SortEntry) → name < length world.names → IsReadySortEntry world.names world.sorts d → IsReadyMeaning world.names (length params) (declared_symbol name d)
   entry_ready name (entry.Free number arity) l r = l
   entry_ready name (entry.Data number arity) l r = l
   entry_ready name (entry.Defined count body) l r = r.ready
@@ -114,7 +114,7 @@ module _ (world : World) (params : List ℕ) (ready : IsReady world) where
 
 -- the same of an answer, in the world after the call
 pub schema_of : (old new : World) (params : List ℕ) (raw : syntax.Sort) (r : Result NumberedSort TyError) → IsReady old → IsSortNamed old.names raw → OthersStay old new
-    → Answers (tree_answer r) (sort_in old params raw) → IfOk r (λ s. IsInterned new.sorts s) → IfOk r (λ s. IsReadySchema new (length params) s)
+    → Answers (tree_answer r) (sort_in old params raw) → IfOk r (λ s. IsInterned new.sorts s) → IfOk r (λ s. IsReadySchema new.names new.sorts (length params) s)
 schema_of old new params raw (Ok s) ready named others h i =
     record { interned = i; ready = subst (λ w. IsReadyTree w.names (length params) (tree s)) (sym others) (sort_ready old params ready raw (tree s) [] [] named (h [])) }
 schema_of old new params raw (Err e) ready named others h i = tt

@@ -1,7 +1,8 @@
 -- What a world keeps: its table has the names of the live declarations and of the sorts that stand in them, its store has
 -- these sorts, and they have no parameter past the number that the declaration gives.
-use Rattle.std.specs.Prelude.{◌≡◌, ℕ, ◌<◌, Bool, true, false, not, IsTrue, List, length, ⊤}
+use Rattle.std.specs.Prelude.{◌≡◌, ℕ, ◌<◌, Bool, true, false, List, length, ⊤}
 use Rattle.std.specs.List.{All}
+use Rattle.sig_table.specs.declared.theories.Theories.{Theories}
 use Rattle.sort_store.specs.declared.head.Head.{Head}
 use Rattle.sort_store.specs.declared.head.Head.TheVariants as head
 use Rattle.sort_store.specs.Tree.{Sort, sort, SortList, no_sorts, more_sorts, NumberedSort, tree}
@@ -32,14 +33,14 @@ abbrev mutual
   AreReadyTrees texts params (more_sorts t ts) = IsReadyTree texts params t × AreReadyTrees texts params ts
 
 -- a sort of a declaration with this number of parameters: the store has it, and the table its names
-pub record IsReadySchema (world : World) (params : ℕ) (r : NumberedSort) : Type 0 where
-  pub interned : IsInterned world.sorts r
-  pub ready : IsReadyTree world.names params (tree r)
+pub record IsReadySchema (texts : List (List ℕ)) (store : List Sort) (params : ℕ) (r : NumberedSort) : Type 0 where
+  pub interned : IsInterned store r
+  pub ready : IsReadyTree texts params (tree r)
 
-abbrev pub IsReadySortEntry : World → SortEntry → Type 0
-IsReadySortEntry world (entry.Free number arity) = ⊤
-IsReadySortEntry world (entry.Data number arity) = ⊤
-IsReadySortEntry world (entry.Defined params body) = IsReadySchema world params body
+abbrev pub IsReadySortEntry : List (List ℕ) → List Sort → SortEntry → Type 0
+IsReadySortEntry texts store (entry.Free number arity) = ⊤
+IsReadySortEntry texts store (entry.Data number arity) = ⊤
+IsReadySortEntry texts store (entry.Defined params body) = IsReadySchema texts store params body
 
 -- constructors and selectors may have parameters, those of their datatype
 abbrev pub may_have_params : FunKind → Bool
@@ -47,21 +48,21 @@ may_have_params kind.Constructor = true
 may_have_params kind.Selector = true
 may_have_params _ = false
 
-pub record IsReadyFunEntry (world : World) (f : FunEntry) : Type 0 where
-  pub args : All (IsReadySchema world f.params) f.args
-  pub result : IsReadySchema world f.params f.result
+pub record IsReadyFunEntry (texts : List (List ℕ)) (store : List Sort) (f : FunEntry) : Type 0 where
+  pub args : All (IsReadySchema texts store f.params) f.args
+  pub result : IsReadySchema texts store f.params f.result
   pub params : may_have_params f.kind ≡ false → f.params ≡ 0
 
 -- a live sort symbol, whose name Core and the theories don't use
-pub record IsReadySort (world : World) (d : ℕ × SortEntry) : Type 0 where
-  pub name : d.0 < length world.names
-  pub no_theory_sort : IsTrue (not (is_theory_sort world.names world.theories d.0))
-  pub entry : IsReadySortEntry world d.1
+pub record IsReadySort (texts : List (List ℕ)) (theories : Theories) (store : List Sort) (d : ℕ × SortEntry) : Type 0 where
+  pub name : d.0 < length texts
+  pub no_theory_sort : is_theory_sort texts theories d.0 ≡ false
+  pub entry : IsReadySortEntry texts store d.1
 
-pub record IsReadyFun (world : World) (d : ℕ × FunEntry) : Type 0 where
-  pub name : d.0 < length world.names
-  pub entry : IsReadyFunEntry world d.1
+pub record IsReadyFun (texts : List (List ℕ)) (store : List Sort) (d : ℕ × FunEntry) : Type 0 where
+  pub name : d.0 < length texts
+  pub entry : IsReadyFunEntry texts store d.1
 
 pub record IsReady (world : World) : Type 0 where
-  pub sorts : All (IsReadySort world) (live world.scopes.sorts)
-  pub funs : All (IsReadyFun world) (live world.scopes.funs)
+  pub sorts : All (IsReadySort world.names world.theories world.sorts) (live world.scopes.sorts)
+  pub funs : All (IsReadyFun world.names world.sorts) (live world.scopes.funs)

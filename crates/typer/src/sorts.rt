@@ -205,7 +205,7 @@ pub fn type_sort(world: &mut World, params: &[NameId], raw: RawSort) -> Result<S
         (judge_sort world.old.names world.old.scopes world.old.theories params.now raw.entry) }
 
     // The sort may stand in a declaration with these parameters.
-    ensures schema { IfOk result (λ r. IsReadySchema world.new (length params.now) r) }
+    ensures schema { IfOk result (λ r. IsReadySchema world.new.names world.new.sorts (length params.now) r) }
     ensures distinct { OnOk result (HasNoRepeats world.new.sorts) }
     ensures grows { Grows world.old.sorts world.new.sorts }
     ensures others { world.new ≡ record world.old { sorts = world.new.sorts } }
