@@ -7,3 +7,5 @@ pub mod IndexedSteps
 pub mod SortSteps
 pub mod ReadyKept
 pub mod SortsReady
+pub mod LiveDeclarations
+pub mod ReadyCalls

@@ -52,8 +52,11 @@ abbrev pub meaning : List (List ℕ) → Environment → Theories → List ℕ �
 meaning texts scopes theories params name =
     or_else (parameter params name) (or_else (theory_symbol texts theories name) (option_map (declared_symbol name) (found name scopes.sorts)))
 
--- Core or a theory that the logic has uses the name for a sort
+-- Core or a theory that the logic has uses the text for a sort
+abbrev pub is_theory_text : Theories → List ℕ → Bool
+is_theory_text theories text =
+    bytes_eq text (codes "Bool") || (theories.ints && bytes_eq text (codes "Int")) || (theories.arrays && bytes_eq text (codes "Array"))
+    || (theories.bits && bytes_eq text (codes "BitVec"))
+
 abbrev pub is_theory_sort : List (List ℕ) → Theories → ℕ → Bool
-is_theory_sort texts theories name =
-    is_text texts (codes "Bool") name || (theories.ints && is_text texts (codes "Int") name) || (theories.arrays && is_text texts (codes "Array") name)
-    || is_bit_vector texts theories name
+is_theory_sort texts theories name = is_theory_text theories (slice_index_or texts name [])
