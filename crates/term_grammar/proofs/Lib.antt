@@ -7,3 +7,8 @@ pub mod SortsSeen
 pub mod TermsSeen
 pub mod Bytes
 pub mod QualifiedSeen
+pub mod Lengths
+pub mod TokenKinds
+pub mod PartsFound
+pub mod GrammarComplete
+pub mod GrammarSound

@@ -6,13 +6,10 @@ use Rattle.lex_core.specs.declared.token.Tok.{Tok}
 use Rattle.sexp_core.specs.Sexp.{Sexp, atom, list, Sexps, nil, cons}
 use Rattle.sexp_core.specs.Items.{sexp_code, sexps_code}
 use Rattle.term_grammar.specs.Syntax.{Identifier, symbol, indexed, Sort, named_sort, applied_sort, Sorts, no_sorts, with_sort, Qualified, unqualified, qualified, SortedSymbol, Pattern, symbol_pattern, constructor_pattern, Attribute, keyword_attribute, valued_attribute, Term, constant, qualified_term, application, let_in, for_all, there_exists, match_with, annotated, Terms, no_terms, with_term, Bindings, no_bindings, with_binding, Cases, no_cases, with_case, Notes, no_notes, with_note, Note, named_note, pattern_note, attribute_note}
+use Rattle.term_grammar.specs.FirstParts.{atoms}
 use Rattle.term_grammar.specs.Reads.{no_token, tokens_of}
 
 -- tokens
-
-abbrev pub atoms : List Tok → Sexps Tok
-atoms [] = nil
-atoms (t ∷ ts) = cons (atom t) (atoms ts)
 
 pub tokens_of-atoms : (ts : List Tok) → tokens_of (atoms ts) ≡ ts
 tokens_of-atoms [] = refl

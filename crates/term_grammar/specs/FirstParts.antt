@@ -1,5 +1,5 @@
 -- The first of some s-expressions, by its form, and the others.
-use Rattle.std.specs.Prelude.{Bool, true, false, Option, Some, None, option_and_then, if◌then◌else◌}
+use Rattle.std.specs.Prelude.{Bool, true, false, List, [], ◌∷◌, Option, Some, None, option_and_then, if◌then◌else◌}
 use Rattle.lex_core.specs.declared.token.Tok.{Tok}
 use Rattle.sexp_core.specs.Sexp.{Sexp, atom, list, Sexps, nil, cons}
 use Rattle.sexp_core.specs.declared.parts.Part.{Part}
@@ -14,6 +14,11 @@ o >>= f = option_and_then f o
 abbrev pub part_of : Sexp Tok → Part
 part_of (atom t) = part.Atom t
 part_of (list at ts) = part.List at ts
+
+-- tokens as trees
+abbrev pub atoms : List Tok → Sexps Tok
+atoms [] = nil
+atoms (t ∷ ts) = cons (atom t) (atoms ts)
 
 -- any tree, and the others
 abbrev pub any_first : Sexps Tok → Option (Part × Sexps Tok)

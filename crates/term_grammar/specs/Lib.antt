@@ -6,9 +6,11 @@ pub mod Forms
 pub mod TermForms
 pub mod Reads
 pub mod FormReading
+pub mod Grammar
 pub mod Codes
 pub mod Readings
 pub mod WordNumbers
+pub mod ListViews
 pub mod IdentifierParts
 pub mod IdentifierViews
 pub mod SortViews

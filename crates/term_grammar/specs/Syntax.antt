@@ -112,3 +112,8 @@ each_sort (with_sort s ss) = s ∷ each_sort ss
 abbrev pub each_term : Terms → List Term
 each_term no_terms = []
 each_term (with_term t ts) = t ∷ each_term ts
+
+-- the attributes as a list
+abbrev pub each_note : Notes → List Note
+each_note no_notes = []
+each_note (with_note n ns) = n ∷ each_note ns

@@ -53,3 +53,17 @@ SplitsCases cs (Some p) = cs ≡ with_case p.0.at p.0.pattern p.0.term p.1
 abbrev pub SplitsNotes : Notes → Option (Note × Notes) → Type 0
 SplitsNotes ns None = ns ≡ no_notes
 SplitsNotes ns (Some p) = ns ≡ with_note p.0 p.1
+
+-- the parts as a list
+
+abbrev pub each_binding : Bindings → List RawBinding
+each_binding no_bindings = []
+each_binding (with_binding at x t bs) = record { at = at; name = x; term = t } ∷ each_binding bs
+
+abbrev pub each_variable : List SortedSymbol → List RawVariable
+each_variable [] = []
+each_variable (v ∷ vs) = record { at = v.at; name = v.name; sort = v.sort } ∷ each_variable vs
+
+abbrev pub each_case : Cases → List RawCase
+each_case no_cases = []
+each_case (with_case at p t cs) = record { at = at; pattern = p; term = t } ∷ each_case cs

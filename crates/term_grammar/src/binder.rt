@@ -1,9 +1,10 @@
 //! The bindings of a `let` and the variables of a quantifier or a definition, as views of their trees.
-ghost use Rattle.std.specs.Prelude.{◌≡◌};
+ghost use Rattle.std.specs.Prelude.{◌≡◌, length, slice_get};
 ghost use Rattle.term_grammar.specs.Reads.{read_sorted};
-ghost use Rattle.term_grammar.specs.TermViews.{SplitsBindings, SplitsVariables};
+ghost use Rattle.term_grammar.specs.TermViews.{each_variable, each_binding, SplitsBindings, SplitsVariables};
 
 use crate::judge::judge_sorted;
+use crate::list::{PartList, count, few, nth};
 use crate::sort::RawSort;
 use crate::term::RawTerm;
 use crate::term_form::named_parts;
@@ -41,6 +42,23 @@ impl<'t> Model for RawBindings<'t> {
     ghost invariant = { λ r. IsOk (read_bindings r.trees) };
 }
 
+impl<'t> PartList for RawBindings<'t> {
+    ghost use Rattle.term_grammar.specs.TermViews.{each_binding};
+
+    type Part = RawBinding<'t>;
+
+    ghost parts = { each_binding };
+
+    fn split_first(&self) -> Option<(RawBinding<'t>, RawBindings<'t>)> {
+        self.split()
+    }
+
+    #[tactic(auto, using(crate::proofs::Lengths::bindings_few))]
+    fn bounded(&self) {
+        few(&self.trees);
+    }
+}
+
 /// A variable: `( symbol sort )` (SMT-LIB 2.6, section 3.6).
 #[derive(Drop)]
 pub struct RawVariable<'t> {
@@ -71,6 +89,23 @@ impl<'t> Model for RawVariables<'t> {
     ghost invariant = { λ r. IsOk (read_sorted r.trees) };
 }
 
+impl<'t> PartList for RawVariables<'t> {
+    ghost use Rattle.term_grammar.specs.TermViews.{each_variable};
+
+    type Part = RawVariable<'t>;
+
+    ghost parts = { each_variable };
+
+    fn split_first(&self) -> Option<(RawVariable<'t>, RawVariables<'t>)> {
+        self.split()
+    }
+
+    #[tactic(auto, using(crate::proofs::Lengths::variables_few))]
+    fn bounded(&self) {
+        few(&self.trees);
+    }
+}
+
 impl<'t> RawBinding<'t> {
     /// The first byte of the binding, from 0.
     pub fn at(&self) -> u32
@@ -81,6 +116,20 @@ impl<'t> RawBinding<'t> {
 }
 
 impl<'t> RawBindings<'t> {
+    /// How many bindings there are. It walks over them.
+    pub fn len(&self) -> usize
+        ensures { result ≡ length (each_binding self.now) }
+    {
+        count(self)
+    }
+
+    /// The binding at an index, from 0. It walks over those before it, and answers `None` exactly past the end.
+    pub fn get(&self, i: usize) -> Option<RawBinding<'t>>
+        ensures { result ≡ slice_get (each_binding self.now) i }
+    {
+        nth(self, i)
+    }
+
     /// The first binding, and the others. It answers `None` exactly where none is left.
     pub fn split(&self) -> Option<(RawBinding<'t>, RawBindings<'t>)>
         ensures { SplitsBindings self.now result }
@@ -109,6 +158,20 @@ impl<'t> RawVariable<'t> {
 }
 
 impl<'t> RawVariables<'t> {
+    /// How many variables there are. It walks over them.
+    pub fn len(&self) -> usize
+        ensures { result ≡ length (each_variable self.now) }
+    {
+        count(self)
+    }
+
+    /// The variable at an index, from 0. It walks over those before it, and answers `None` exactly past the end.
+    pub fn get(&self, i: usize) -> Option<RawVariable<'t>>
+        ensures { result ≡ slice_get (each_variable self.now) i }
+    {
+        nth(self, i)
+    }
+
     /// The first variable, and the others. It answers `None` exactly where none is left.
     pub fn split(&self) -> Option<(RawVariable<'t>, RawVariables<'t>)>
         ensures { SplitsVariables self.now result }

@@ -1,12 +1,14 @@
 //! Identifiers, as views of their trees.
-ghost use Rattle.std.specs.Prelude.{◌≡◌, IsTrue};
+ghost use Rattle.std.specs.Prelude.{◌≡◌, IsTrue, length, slice_get};
 ghost use Rattle.sexp_core.specs.Parts.{whole};
 ghost use Rattle.term_grammar.specs.Forms.{is_identifier as is_an_identifier};
 ghost use Rattle.term_grammar.specs.Reads.{identifier_of};
 ghost use Rattle.term_grammar.specs.Syntax.{identifier_at};
 ghost use Rattle.term_grammar.specs.IdentifierViews.{identifier_kind, SplitsTokens};
+ghost use Rattle.term_grammar.specs.ListViews.{each_token};
 
 use crate::form::indexed_parts;
+use crate::list::{PartList, count, few, nth};
 use crate::parts::token_first;
 use lex_core::Tok;
 use sexp_core::{Part, Trees};
@@ -60,6 +62,23 @@ impl<'t> Model for RawIndices<'t> {
     ghost view = { λ r. tokens_of r.trees };
 
     ghost invariant = { λ r. IsTrue (are_indices r.trees) };
+}
+
+impl<'t> PartList for RawIndices<'t> {
+    ghost use Rattle.term_grammar.specs.ListViews.{each_token};
+
+    type Part = Tok;
+
+    ghost parts = { each_token };
+
+    fn split_first(&self) -> Option<(Tok, RawIndices<'t>)> {
+        self.split()
+    }
+
+    #[tactic(auto, using(crate::proofs::Lengths::tokens_few))]
+    fn bounded(&self) {
+        few(&self.trees);
+    }
 }
 
 /// An identifier, by its production.
@@ -134,6 +153,20 @@ impl<'t> RawIdentifier<'t> {
 }
 
 impl<'t> RawIndices<'t> {
+    /// How many indices there are. It walks over them.
+    pub fn len(&self) -> usize
+        ensures { result ≡ length (each_token self.now) }
+    {
+        count(self)
+    }
+
+    /// The index at an index, from 0. It walks over those before it, and answers `None` exactly past the end.
+    pub fn get(&self, i: usize) -> Option<Tok>
+        ensures { result ≡ slice_get (each_token self.now) i }
+    {
+        nth(self, i)
+    }
+
     /// The first index, and the others. It answers `None` exactly where none is left.
     pub fn split(&self) -> Option<(Tok, RawIndices<'t>)>
         ensures { SplitsTokens self.now result }

@@ -7,6 +7,7 @@ mod form;
 mod identifier;
 mod judge;
 mod laws;
+mod list;
 mod note;
 mod parts;
 mod pattern;

@@ -1,9 +1,11 @@
 //! The attributes of a term, as views of their trees.
-ghost use Rattle.std.specs.Prelude.{◌≡◌};
+ghost use Rattle.std.specs.Prelude.{◌≡◌, length, slice_get};
 ghost use Rattle.term_grammar.specs.NoteForms.{note_of, NoteReads};
 ghost use Rattle.term_grammar.specs.TermViews.{note_kind, SplitsNotes};
+ghost use Rattle.term_grammar.specs.Syntax.{each_note};
 
 use crate::attribute::RawAttribute;
+use crate::list::{PartList, count, few, nth};
 use crate::term::RawTerms;
 use crate::term_form::{NoteForm, note_parts};
 use lex_core::Tok;
@@ -50,6 +52,23 @@ impl<'t> Model for RawNotes<'t> {
     ghost invariant = { λ r. IsOk (read_notes r.trees) };
 }
 
+impl<'t> PartList for RawNotes<'t> {
+    ghost use Rattle.term_grammar.specs.Syntax.{each_note};
+
+    type Part = RawNote<'t>;
+
+    ghost parts = { each_note };
+
+    fn split_first(&self) -> Option<(RawNote<'t>, RawNotes<'t>)> {
+        self.split()
+    }
+
+    #[tactic(auto, using(crate::proofs::Lengths::notes_few))]
+    fn bounded(&self) {
+        few(&self.trees);
+    }
+}
+
 /// An attribute of a term, by its production.
 #[derive(Drop)]
 pub enum RawNoteKind<'t> {
@@ -77,6 +96,20 @@ impl<'t> RawNote<'t> {
 }
 
 impl<'t> RawNotes<'t> {
+    /// How many attributes there are. It walks over them.
+    pub fn len(&self) -> usize
+        ensures { result ≡ length (each_note self.now) }
+    {
+        count(self)
+    }
+
+    /// The attribute at an index, from 0. It walks over those before it, and answers `None` exactly past the end.
+    pub fn get(&self, i: usize) -> Option<RawNote<'t>>
+        ensures { result ≡ slice_get (each_note self.now) i }
+    {
+        nth(self, i)
+    }
+
     /// The first attribute, and the others. It answers `None` exactly where none is left.
     pub fn split(&self) -> Option<(RawNote<'t>, RawNotes<'t>)>
         ensures { SplitsNotes self.now result }

@@ -1,9 +1,11 @@
 //! Patterns and the cases of a `match`, as views of their trees.
-ghost use Rattle.std.specs.Prelude.{◌≡◌};
+ghost use Rattle.std.specs.Prelude.{◌≡◌, length, slice_get};
 ghost use Rattle.term_grammar.specs.Syntax.{pattern_at};
 ghost use Rattle.term_grammar.specs.IdentifierViews.{SplitsTokens};
-ghost use Rattle.term_grammar.specs.TermViews.{pattern_kind, SplitsCases};
+ghost use Rattle.term_grammar.specs.TermViews.{each_case, pattern_kind, SplitsCases};
+ghost use Rattle.term_grammar.specs.ListViews.{each_token};
 
+use crate::list::{PartList, count, few, nth};
 use crate::parts::{first_byte, token_first};
 use crate::term::RawTerm;
 use crate::term_form::{case_parts, constructor_parts};
@@ -56,6 +58,23 @@ impl<'t> Model for RawSymbols<'t> {
     ghost invariant = { λ r. IsTrue (are_symbols r.trees) };
 }
 
+impl<'t> PartList for RawSymbols<'t> {
+    ghost use Rattle.term_grammar.specs.ListViews.{each_token};
+
+    type Part = Tok;
+
+    ghost parts = { each_token };
+
+    fn split_first(&self) -> Option<(Tok, RawSymbols<'t>)> {
+        self.split()
+    }
+
+    #[tactic(auto, using(crate::proofs::Lengths::tokens_few))]
+    fn bounded(&self) {
+        few(&self.trees);
+    }
+}
+
 /// A pattern, by its production.
 #[derive(Drop)]
 pub enum RawPatternKind<'t> {
@@ -98,6 +117,23 @@ impl<'t> Model for RawCases<'t> {
     ghost invariant = { λ r. IsOk (read_cases r.trees) };
 }
 
+impl<'t> PartList for RawCases<'t> {
+    ghost use Rattle.term_grammar.specs.TermViews.{each_case};
+
+    type Part = RawCase<'t>;
+
+    ghost parts = { each_case };
+
+    fn split_first(&self) -> Option<(RawCase<'t>, RawCases<'t>)> {
+        self.split()
+    }
+
+    #[tactic(auto, using(crate::proofs::Lengths::cases_few))]
+    fn bounded(&self) {
+        few(&self.trees);
+    }
+}
+
 impl<'t> RawPattern<'t> {
     /// The first byte of the pattern, from 0.
     pub fn at(&self) -> u32
@@ -124,6 +160,20 @@ impl<'t> RawPattern<'t> {
 }
 
 impl<'t> RawSymbols<'t> {
+    /// How many symbols there are. It walks over them.
+    pub fn len(&self) -> usize
+        ensures { result ≡ length (each_token self.now) }
+    {
+        count(self)
+    }
+
+    /// The symbol at an index, from 0. It walks over those before it, and answers `None` exactly past the end.
+    pub fn get(&self, i: usize) -> Option<Tok>
+        ensures { result ≡ slice_get (each_token self.now) i }
+    {
+        nth(self, i)
+    }
+
     /// The first symbol, and the others. It answers `None` exactly where none is left.
     pub fn split(&self) -> Option<(Tok, RawSymbols<'t>)>
         ensures { SplitsTokens self.now result }
@@ -145,6 +195,20 @@ impl<'t> RawCase<'t> {
 }
 
 impl<'t> RawCases<'t> {
+    /// How many cases there are. It walks over them.
+    pub fn len(&self) -> usize
+        ensures { result ≡ length (each_case self.now) }
+    {
+        count(self)
+    }
+
+    /// The case at an index, from 0. It walks over those before it, and answers `None` exactly past the end.
+    pub fn get(&self, i: usize) -> Option<RawCase<'t>>
+        ensures { result ≡ slice_get (each_case self.now) i }
+    {
+        nth(self, i)
+    }
+
     /// The first case, and the others. It answers `None` exactly where none is left.
     pub fn split(&self) -> Option<(RawCase<'t>, RawCases<'t>)>
         ensures { SplitsCases self.now result }

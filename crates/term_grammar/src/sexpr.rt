@@ -1,8 +1,10 @@
 //! S-expressions in the values of attributes, as views of their trees.
-ghost use Rattle.std.specs.Prelude.{◌≡◌};
+ghost use Rattle.std.specs.Prelude.{◌≡◌, length, slice_get};
 ghost use Rattle.term_grammar.specs.Reads.{byte_of};
 ghost use Rattle.term_grammar.specs.AttributeViews.{sexpr_kind, sexpr_atom_kind, SplitsSexprs};
+ghost use Rattle.term_grammar.specs.ListViews.{each_sexpr};
 
+use crate::list::{PartList, count, few, nth};
 use crate::parts::first_byte;
 use crate::words::{is_constant, is_keyword, is_symbol};
 use lex_core::Tok;
@@ -44,6 +46,23 @@ impl<'t> Model for RawSexprs<'t> {
     ghost coded = { sexps_code };
 
     ghost view = { λ r. r.trees };
+}
+
+impl<'t> PartList for RawSexprs<'t> {
+    ghost use Rattle.term_grammar.specs.ListViews.{each_sexpr};
+
+    type Part = RawSexpr<'t>;
+
+    ghost parts = { each_sexpr };
+
+    fn split_first(&self) -> Option<(RawSexpr<'t>, RawSexprs<'t>)> {
+        self.split()
+    }
+
+    #[tactic(auto, using(crate::proofs::Lengths::sexprs_few))]
+    fn bounded(&self) {
+        few(&self.trees);
+    }
 }
 
 /// An s-expression, by its production.
@@ -98,6 +117,20 @@ fn atom_kind<'t>(tok: &Tok) -> RawSexprKind<'t>
 }
 
 impl<'t> RawSexprs<'t> {
+    /// How many s-expressions there are. It walks over them.
+    pub fn len(&self) -> usize
+        ensures { result ≡ length (each_sexpr self.now) }
+    {
+        count(self)
+    }
+
+    /// The s-expression at an index, from 0. It walks over those before it, and answers `None` exactly past the end.
+    pub fn get(&self, i: usize) -> Option<RawSexpr<'t>>
+        ensures { result ≡ slice_get (each_sexpr self.now) i }
+    {
+        nth(self, i)
+    }
+
     /// The first s-expression, and the others. It answers `None` exactly where none is left.
     pub fn split(&self) -> Option<(RawSexpr<'t>, RawSexprs<'t>)>
         ensures { SplitsSexprs self.now result }

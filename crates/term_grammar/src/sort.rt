@@ -1,13 +1,14 @@
 //! Sorts, as views of their trees.
-ghost use Rattle.std.specs.Prelude.{◌≡◌};
+ghost use Rattle.std.specs.Prelude.{◌≡◌, length, slice_get};
 ghost use Rattle.sexp_core.specs.Parts.{whole};
 ghost use Rattle.term_grammar.specs.Reads.{read_sort as reading, read_sorts as readings};
-ghost use Rattle.term_grammar.specs.Syntax.{sort_at};
+ghost use Rattle.term_grammar.specs.Syntax.{each_sort, sort_at};
 ghost use Rattle.term_grammar.specs.SortViews.{sort_kind, SplitsSorts};
 
 use crate::form::{SortForm, sort_form};
 use crate::identifier::{RawIdentifier, identifier};
 use crate::judge::{judge_sort, judge_sorts};
+use crate::list::{PartList, count, few, nth};
 use crate::parts::first_byte;
 use sexp_core::{Part, Trees};
 use std::marker::Model;
@@ -55,6 +56,23 @@ impl<'t> Model for RawSorts<'t> {
     ghost view = { λ r. sorts_of r.trees };
 
     ghost invariant = { λ r. IsOk (read_sorts r.trees) };
+}
+
+impl<'t> PartList for RawSorts<'t> {
+    ghost use Rattle.term_grammar.specs.Syntax.{each_sort};
+
+    type Part = RawSort<'t>;
+
+    ghost parts = { each_sort };
+
+    fn split_first(&self) -> Option<(RawSort<'t>, RawSorts<'t>)> {
+        self.split()
+    }
+
+    #[tactic(auto, using(crate::proofs::Lengths::sorts_few))]
+    fn bounded(&self) {
+        few(&self.trees);
+    }
 }
 
 /// A sort, by its production.
@@ -126,6 +144,20 @@ impl<'t> RawSort<'t> {
 }
 
 impl<'t> RawSorts<'t> {
+    /// How many sorts there are. It walks over them.
+    pub fn len(&self) -> usize
+        ensures { result ≡ length (each_sort self.now) }
+    {
+        count(self)
+    }
+
+    /// The sort at an index, from 0. It walks over those before it, and answers `None` exactly past the end.
+    pub fn get(&self, i: usize) -> Option<RawSort<'t>>
+        ensures { result ≡ slice_get (each_sort self.now) i }
+    {
+        nth(self, i)
+    }
+
     /// The first sort, and the others. It answers `None` exactly where none is left.
     pub fn split(&self) -> Option<(RawSort<'t>, RawSorts<'t>)>
         ensures { SplitsSorts self.now result }

@@ -1,12 +1,13 @@
 //! Terms, as views of their trees.
-ghost use Rattle.std.specs.Prelude.{◌≡◌};
+ghost use Rattle.std.specs.Prelude.{◌≡◌, length, slice_get};
 ghost use Rattle.sexp_core.specs.Parts.{whole};
 ghost use Rattle.term_grammar.specs.Reads.{read_term as reading, read_terms as readings};
-ghost use Rattle.term_grammar.specs.Syntax.{term_at};
+ghost use Rattle.term_grammar.specs.Syntax.{each_term, term_at};
 ghost use Rattle.term_grammar.specs.TermViews.{term_kind, SplitsTerms};
 
 use crate::binder::{RawBindings, RawVariables};
 use crate::judge::{judge_term, judge_terms};
+use crate::list::{PartList, count, few, nth};
 use crate::note::RawNotes;
 use crate::parts::first_byte;
 use crate::pattern::RawCases;
@@ -59,6 +60,23 @@ impl<'t> Model for RawTerms<'t> {
     ghost view = { λ r. terms_of r.trees };
 
     ghost invariant = { λ r. IsOk (read_terms r.trees) };
+}
+
+impl<'t> PartList for RawTerms<'t> {
+    ghost use Rattle.term_grammar.specs.Syntax.{each_term};
+
+    type Part = RawTerm<'t>;
+
+    ghost parts = { each_term };
+
+    fn split_first(&self) -> Option<(RawTerm<'t>, RawTerms<'t>)> {
+        self.split()
+    }
+
+    #[tactic(auto, using(crate::proofs::Lengths::terms_few))]
+    fn bounded(&self) {
+        few(&self.trees);
+    }
 }
 
 /// A term, by its production.
@@ -169,6 +187,20 @@ impl<'t> RawTerm<'t> {
 }
 
 impl<'t> RawTerms<'t> {
+    /// How many terms there are. It walks over them.
+    pub fn len(&self) -> usize
+        ensures { result ≡ length (each_term self.now) }
+    {
+        count(self)
+    }
+
+    /// The term at an index, from 0. It walks over those before it, and answers `None` exactly past the end.
+    pub fn get(&self, i: usize) -> Option<RawTerm<'t>>
+        ensures { result ≡ slice_get (each_term self.now) i }
+    {
+        nth(self, i)
+    }
+
     /// The first term, and the others. It answers `None` exactly where none is left.
     pub fn split(&self) -> Option<(RawTerm<'t>, RawTerms<'t>)>
         ensures { SplitsTerms self.now result }
