@@ -15,3 +15,6 @@ pub use numeral::numeral_value;
 pub use sorts::type_sort;
 pub use symbol::is_theory_sort;
 pub use world::World;
+
+#[cfg(test)]
+mod tests;
