@@ -107,3 +107,13 @@ ready_with_names world texts (more, e) ready = subst (λ t. IsReady (with_names 
       record { name = longer world.names more _ h.name; no_theory_sort = theory_sort_kept world.names more world.theories _ h.name h.no_theory_sort; entry = entry_kept world.names more world.sorts _ h.entry });
   funs = λ k d l. (let h = ready.funs k d l in record { name = longer world.names more _ h.name; entry = fun_kept world.names more world.sorts _ h.entry });
 })
+
+pub ready_declared : (world : World) (scopes : Environment) (name : ℕ) (d : SortEntry) → scopes ≡ with_sort name d world.scopes → IsReady world → name < length world.names
+    → is_theory_sort world.names world.theories name ≡ false → IsReadySortEntry world.names world.sorts d → IsReady (record world { scopes = scopes })
+ready_declared world scopes name d e ready l free h =
+    subst (λ s. IsReady (with_scopes s world)) (sym e) (ready_with_sort world ready name d (record { name = l; no_theory_sort = free; entry = h }))
+
+pub ready_stays : (world : World) (scopes : Environment) → scopes ≡ world.scopes → IsReady world → IsReady (record world { scopes = scopes })
+ready_stays world scopes e ready = subst (λ s. IsReady (with_scopes s world)) (sym e) ready
+
+pub ruleset ready_calls = (ready_declared, ready_stays, ready_with_names, ready_empty)

@@ -240,17 +240,20 @@ fn sort_of(
     Ok(type_sort(world, params, raw))
 }
 
-// Declares a sort symbol.
-fn declare(rt: &impl Abort, world: &mut World, name: NameId, entry: SortEntry)
+// Declares a sort symbol that is not in use.
+fn declare(world: &mut World, name: NameId, entry: SortEntry) -> bool
     requires ready { IsReady world.old }
     requires name { name < length world.old.names }
     requires entry { IsReadySortEntry world.old.names world.old.sorts entry }
     ensures { IsReady world.new }
 {
-    let is_free = !is_theory_sort(&world.names, &world.theories, name);
-    assert!(rt; is_free);
-    let declared = world.scopes.declare_sort(name, entry).is_ok();
-    assert!(rt; declared);
+    if is_theory_sort(&world.names, &world.theories, name) {
+        return false;
+    }
+    match world.scopes.declare_sort(name, entry) {
+        Ok(()) => true,
+        Err(_) => false,
+    }
 }
 
 // Defines a sort symbol with no parameter or one.
@@ -272,7 +275,26 @@ fn define(
         params: params.len() as u32,
         sort,
     };
-    declare(rt, world, name, entry);
+    let declared = declare(world, name, entry);
+    assert!(rt; declared);
+    Ok(())
+}
+
+// Declares a free sort symbol.
+fn declare_free(
+    rt: &impl Abort,
+    world: &mut World,
+    symbol: &[u8],
+    no: u32,
+    arity: u32,
+) -> Result<(), Fail>
+    requires { IsReady world.old }
+    ensures { IsReady world.new }
+{
+    let name = name_of(rt, world, symbol)?;
+    let no = DeclNo(no);
+    let declared = declare(world, name, SortEntry::Free { no, arity });
+    assert!(rt; declared);
     Ok(())
 }
 
@@ -289,38 +311,21 @@ fn params_of(rt: &impl Abort, world: &mut World, param: &[u8]) -> Result<Vec<Nam
 }
 
 // The world of the rows, under some theories.
+#[tactic(auto, using(crate::proofs::ReadyCalls::ready_calls))]
 fn world_of(rt: &impl Abort, alloc: Global, theories: Theories) -> Result<World, Fail>
     ensures { IfOk result IsReady }
 {
-    let mut world = World::new(alloc)?;
-    world.theories = theories;
-    let name = name_of(rt, &mut world, b"E")?;
-    declare(
-        rt,
-        &mut world,
-        name,
-        SortEntry::Free {
-            no: DeclNo(0),
-            arity: 0,
-        },
-    );
-    let name = name_of(rt, &mut world, b"P")?;
-    declare(
-        rt,
-        &mut world,
-        name,
-        SortEntry::Free {
-            no: DeclNo(1),
-            arity: 2,
-        },
-    );
-    define(rt, &mut world, b"D", b"", b"E")?;
-    define(rt, &mut world, b"G", b"X", b"(P X E)")?;
-    define(rt, &mut world, b"D1", b"", b"(P E E)")?;
+    let mut state = World::new(alloc)?;
+    state.theories = theories;
+    declare_free(rt, &mut state, b"E", 0, 0)?;
+    declare_free(rt, &mut state, b"P", 1, 2)?;
+    define(rt, &mut state, b"D", b"", b"E")?;
+    define(rt, &mut state, b"G", b"X", b"(P X E)")?;
+    define(rt, &mut state, b"D1", b"", b"(P E E)")?;
     for (symbol, body) in &DOUBLED {
-        define(rt, &mut world, symbol, b"", body)?;
+        define(rt, &mut state, symbol, b"", body)?;
     }
-    Ok(world)
+    Ok(state)
 }
 
 // The answer of a row.
@@ -342,11 +347,11 @@ fn answer(
     }
 }
 
-fn compare(rt: &impl Abort, world: &mut World, rows: &[Row]) -> Result<(), Fail>
-    requires { IsReady world.old }
+fn compare(rt: &impl Abort, state: &mut World, rows: &[Row]) -> Result<(), Fail>
+    requires { IsReady state.old }
 {
     for (param, text, word, number) in rows {
-        let (got, at) = answer(rt, world, param, text)?;
+        let (got, at) = answer(rt, state, param, text)?;
         assert!(rt; got == *word && at == *number, "{text:?}");
     }
     Ok(())
