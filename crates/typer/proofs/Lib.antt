@@ -1,3 +1,4 @@
+pub mod DeclarationsByTrees
 pub mod NumeralDigits
 pub mod SortLaws
 pub mod CapturedSymbols

@@ -11,6 +11,7 @@ use Rattle.sort_store.specs.Tree.{Sort, NumberedSort, tree}
 use Rattle.typer.specs.declared.error.TyError.{TyError}
 use Rattle.typer.specs.declared.error.TyError.TheVariants as error
 use Rattle.typer.specs.declared.world.World.{World}
+use Rattle.typer.specs.Declarations.{declarations_of}
 use Rattle.typer.specs.Answers.{Answers, tree_answer}
 use Rattle.typer.specs.SortRules.{judge_sort, judge_sorts, judge_identifier}
 
@@ -36,13 +37,13 @@ prefixed ts (ill_sorted place) = ill_sorted place
 
 -- the rules under a world
 abbrev pub sort_in : World → List ℕ → syntax.Sort → Judging Sort
-sort_in world params s = judge_sort world.names world.scopes world.theories params s
+sort_in world params s = judge_sort world.names (declarations_of world.scopes) world.theories params s
 
 abbrev pub sorts_in : World → List ℕ → Sorts → Judging (List Sort)
-sorts_in world params ss = judge_sorts world.names world.scopes world.theories params ss
+sorts_in world params ss = judge_sorts world.names (declarations_of world.scopes) world.theories params ss
 
 abbrev pub identifier_in : World → List ℕ → ℕ → List Sort → Identifier → Judging Sort
-identifier_in world params at args i = judge_identifier world.names world.scopes world.theories params at args i
+identifier_in world params at args i = judge_identifier world.names (declarations_of world.scopes) world.theories params at args i
 
 abbrev with_sorts : List Sort → World → World
 with_sorts store world = record world { sorts = store }

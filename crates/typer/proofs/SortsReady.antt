@@ -18,11 +18,12 @@ use Rattle.sort_store.specs.Interned.{IsInterned}
 use Rattle.typer.specs.declared.error.TyError.{TyError}
 use Rattle.typer.specs.declared.world.World.{World}
 use Rattle.typer.specs.Answers.{Answers, tree_answer}
-use Rattle.typer.specs.Names.{IsIdentifierNamed, IsSortNamed, AreSortsNamed}
-use Rattle.typer.specs.Ready.{IsReady, IsReadySchema, IsReadySortEntry, IsReadyHead, IsReadyTree, AreReadyTrees}
+use Rattle.typer.specs.Declarations.{sort_declaration, declarations_of}
+use Rattle.typer.specs.Ready.{IsReady, IsReadySchema, IsReadySort, IsReadyHead, IsReadyTree, AreReadyTrees}
 use Rattle.typer.specs.SortSymbols.{Meaning, symbol_of, definition_of, declared_symbol, or_else, meaning}
 use Rattle.typer.specs.SortRules.{judge_meaning}
-use Rattle.typer.proofs.NameSteps.{sort_found}
+use Rattle.typer.proofs.DeclarationsByTrees.{sort_found}
+use Rattle.typer.proofs.NameSteps.{sort_kept}
 use Rattle.typer.proofs.SortSteps.{sort_in, sorts_in, identifier_in, OthersStay}
 
 module _ (texts : List (List ℕ)) (params : ℕ) where
@@ -74,19 +75,20 @@ module _ (world : World) (params : List ℕ) (ready : IsReady world) where
   parameter_ready None name e = tt
   parameter_ready (Some i) name e = (position-Some (λ p. p == name) params i 0 e).0
 
-  entry_ready : (name : ℕ) (d : SortEntry) → name < length world.names → IsReadySortEntry world.names world.sorts d → IsReadyMeaning world.names (length params) (declared_symbol name d)
-  entry_ready name (entry.Free number arity) l r = l
-  entry_ready name (entry.Data number arity) l r = l
-  entry_ready name (entry.Defined count body) l r = r.ready
+  entry_ready : (name : ℕ) (d : SortEntry) → IsReadySort world.names world.theories world.sorts (name, d) → IsReadyMeaning world.names (length params) (declared_symbol name (sort_declaration d))
+  entry_ready name (entry.Free number arity) r = r.name
+  entry_ready name (entry.Data number arity) r = r.name
+  entry_ready name (entry.Defined count body) r = r.entry.ready
 
-  live_ready : (o : Option SortEntry) (name : ℕ) → name < length world.names → found name world.scopes.sorts ≡ o → IsReadyOption world.names (length params) (option_map (declared_symbol name) o)
-  live_ready None name l e = tt
-  live_ready (Some d) name l e = entry_ready name d l (sort_found world name d ready e)
+  live_ready : (o : Option SortEntry) (name : ℕ) → found name world.scopes.sorts ≡ o → IsReadyOption world.names (length params) (option_map (declared_symbol name) (option_map sort_declaration o))
+  live_ready None name e = tt
+  live_ready (Some d) name e = entry_ready name d (sort_kept world name d ready e)
 
-  meaning_ready : (name : ℕ) → name < length world.names → IsReadyOption world.names (length params) (meaning world.names world.scopes world.theories params name)
-  meaning_ready name l =
+  meaning_ready : (name : ℕ) → IsReadyOption world.names (length params) (meaning world.names (declarations_of world.scopes) world.theories params name)
+  meaning_ready name =
       ready_or_else _ _ _ _ (parameter_ready (position (λ p. p == name) params) name refl)
-      (ready_or_else _ _ _ _ (theory_ready world.names (length params) _ _ _) (live_ready (found name world.scopes.sorts) name l refl))
+      (ready_or_else _ _ _ _ (theory_ready world.names (length params) _ _ _)
+      (subst (λ o. IsReadyOption world.names (length params) (option_map (declared_symbol name) o)) (sym (sort_found name world.scopes)) (live_ready (found name world.scopes.sorts) name refl)))
 
   applied_ready : (m : Meaning) (at : ℕ) (args : List Sort) (t : Sort) (before after : List ℕ) → IsReadyMeaning world.names (length params) m → AreReady world.names (length params) args
       → judge_meaning world.names params at args m before (well_sorted t after) → IsReadyTree world.names (length params) t
@@ -94,27 +96,27 @@ module _ (world : World) (params : List ℕ) (ready : IsReady world) where
   applied_ready (definition_of arity body) at args t before after r a (x, s, count, (y, s', small, (z, s'', free, (e, f)))) =
       subst (IsReadyTree world.names (length params)) (sym e) (inst_ready world.names (length params) args body a (subst (λ n. IsReadyTree world.names n body) (sym count.0) r))
 
-  identifier_ready : (i : Identifier) (at : ℕ) (args : List Sort) (t : Sort) (before after : List ℕ) → IsIdentifierNamed world.names i → AreReady world.names (length params) args
+  identifier_ready : (i : Identifier) (at : ℕ) (args : List Sort) (t : Sort) (before after : List ℕ) → AreReady world.names (length params) args
       → identifier_in world params at args i before (well_sorted t after) → IsReadyTree world.names (length params) t
-  identifier_ready (symbol tok) at args t before after n a (m, s, (e, f), h) =
-      applied_ready m at args t s after (subst (IsReadyOption world.names (length params)) e (meaning_ready tok.name n)) a h
-  identifier_ready (indexed _ tok is) at args t before after n a (x, s, bits, (y, s', alone, (i, s'', one, (z, s3, small, (w, s4, positive, (e, f)))))) =
+  identifier_ready (symbol tok) at args t before after a (m, s, (e, f), h) =
+      applied_ready m at args t s after (subst (IsReadyOption world.names (length params)) e (meaning_ready tok.name)) a h
+  identifier_ready (indexed _ tok is) at args t before after a (x, s, bits, (y, s', alone, (i, s'', one, (z, s3, small, (w, s4, positive, (e, f)))))) =
       subst (IsReadyTree world.names (length params)) (sym e) (tt, tt)
 
   mutual
     -- the result may stand in a declaration with these parameters
-    pub sort_ready : (raw : syntax.Sort) (t : Sort) (before after : List ℕ) → IsSortNamed world.names raw → sort_in world params raw before (well_sorted t after) → IsReadyTree world.names (length params) t
-    sort_ready (named_sort i) t before after n h = identifier_ready i _ [] t before after n tt h
-    sort_ready (applied_sort at i ss) t before after n (args, s, j, h) = identifier_ready i at args t s after n.0 (sorts_ready ss args before s n.1 j) h
+    pub sort_ready : (raw : syntax.Sort) (t : Sort) (before after : List ℕ) → sort_in world params raw before (well_sorted t after) → IsReadyTree world.names (length params) t
+    sort_ready (named_sort i) t before after h = identifier_ready i _ [] t before after tt h
+    sort_ready (applied_sort at i ss) t before after (args, s, j, h) = identifier_ready i at args t s after (sorts_ready ss args before s j) h
 
-    pub sorts_ready : (ss : Sorts) (ts : List Sort) (before after : List ℕ) → AreSortsNamed world.names ss → sorts_in world params ss before (well_sorted ts after) → AreReady world.names (length params) ts
-    sorts_ready syntax.no_sorts ts before after n (e, f) = subst (AreReady world.names (length params)) (sym e) tt
-    sorts_ready (with_sort raw ss) ts before after n (t, s, j, (us, s', k, (e, f))) =
-        subst (AreReady world.names (length params)) (sym e) (sort_ready raw t before s n.0 j, sorts_ready ss us s s' n.1 k)
+    pub sorts_ready : (ss : Sorts) (ts : List Sort) (before after : List ℕ) → sorts_in world params ss before (well_sorted ts after) → AreReady world.names (length params) ts
+    sorts_ready syntax.no_sorts ts before after (e, f) = subst (AreReady world.names (length params)) (sym e) tt
+    sorts_ready (with_sort raw ss) ts before after (t, s, j, (us, s', k, (e, f))) =
+        subst (AreReady world.names (length params)) (sym e) (sort_ready raw t before s j, sorts_ready ss us s s' k)
 
 -- the same of an answer, in the world after the call
-pub schema_of : (old new : World) (params : List ℕ) (raw : syntax.Sort) (r : Result NumberedSort TyError) → IsReady old → IsSortNamed old.names raw → OthersStay old new
+pub schema_of : (old new : World) (params : List ℕ) (raw : syntax.Sort) (r : Result NumberedSort TyError) → IsReady old → OthersStay old new
     → Answers (tree_answer r) (sort_in old params raw) → IfOk r (λ s. IsInterned new.sorts s) → IfOk r (λ s. IsReadySchema new.names new.sorts (length params) s)
-schema_of old new params raw (Ok s) ready named others h i =
-    record { interned = i; ready = subst (λ w. IsReadyTree w.names (length params) (tree s)) (sym others) (sort_ready old params ready raw (tree s) [] [] named (h [])) }
-schema_of old new params raw (Err e) ready named others h i = tt
+schema_of old new params raw (Ok s) ready others h i =
+    record { interned = i; ready = subst (λ w. IsReadyTree w.names (length params) (tree s)) (sym others) (sort_ready old params ready raw (tree s) [] [] (h [])) }
+schema_of old new params raw (Err e) ready others h i = tt

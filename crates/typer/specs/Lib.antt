@@ -1,4 +1,4 @@
-pub mod Names
+pub mod Declarations
 pub mod Numerals
 pub mod SortSymbols
 pub mod SortRules

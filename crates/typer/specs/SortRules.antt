@@ -13,7 +13,7 @@ use Rattle.sort_store.specs.declared.head.Head.{Head}
 use Rattle.sort_store.specs.declared.head.Head.TheVariants as head
 use Rattle.sort_store.specs.Tree.{Sort, sort, SortList, no_sorts, more_sorts, sorts, node_count}
 use Rattle.sort_store.specs.Instance.{inst}
-use Rattle.scope_stack.specs.Environment.{Environment}
+use Rattle.typer.specs.Declarations.{Declarations}
 use Rattle.typer.specs.Numerals.{numeral_value}
 use Rattle.typer.specs.SortSymbols.{Meaning, symbol_of, definition_of, is_text, is_bit_vector, meaning}
 
@@ -76,35 +76,35 @@ judge_indexed texts theories at args t is = do
   done (sort (head.BitVec (index_value texts i)) no_sorts)
 
 -- a symbol with arguments that are judged already
-abbrev pub judge_name : List (List ℕ) → Environment → Theories → List ℕ → ℕ → List Sort → ℕ → Judging Sort
-judge_name texts scopes theories params at args name = do
-  m ← find (λ m. meaning texts scopes theories params name ≡ Some m) UnknownSort at
+abbrev pub judge_name : List (List ℕ) → Declarations → Theories → List ℕ → ℕ → List Sort → ℕ → Judging Sort
+judge_name texts declarations theories params at args name = do
+  m ← find (λ m. meaning texts declarations theories params name ≡ Some m) UnknownSort at
   judge_meaning texts params at args m
 
 -- an identifier with arguments that are judged already
-abbrev pub judge_identifier : List (List ℕ) → Environment → Theories → List ℕ → ℕ → List Sort → Identifier → Judging Sort
-judge_identifier texts scopes theories params at args (symbol t) = judge_name texts scopes theories params at args t.name
-judge_identifier texts scopes theories params at args (indexed _ t is) = judge_indexed texts theories at args t is
+abbrev pub judge_identifier : List (List ℕ) → Declarations → Theories → List ℕ → ℕ → List Sort → Identifier → Judging Sort
+judge_identifier texts declarations theories params at args (symbol t) = judge_name texts declarations theories params at args t.name
+judge_identifier texts declarations theories params at args (indexed _ t is) = judge_indexed texts theories at args t is
 
 -- a sort under a table of texts, the live sort symbols, the theories of the logic and the parameters of the command
 abbrev mutual
-  pub judge_sort : List (List ℕ) → Environment → Theories → List ℕ → syntax.Sort → Judging Sort
-  judge_sort texts scopes theories params (named_sort i) = judge_identifier texts scopes theories params (identifier_at i) [] i
-  judge_sort texts scopes theories params (applied_sort at i ss) = do
-    args ← judge_sorts texts scopes theories params ss
-    judge_identifier texts scopes theories params at args i
+  pub judge_sort : List (List ℕ) → Declarations → Theories → List ℕ → syntax.Sort → Judging Sort
+  judge_sort texts declarations theories params (named_sort i) = judge_identifier texts declarations theories params (identifier_at i) [] i
+  judge_sort texts declarations theories params (applied_sort at i ss) = do
+    args ← judge_sorts texts declarations theories params ss
+    judge_identifier texts declarations theories params at args i
 
-  pub judge_sorts : List (List ℕ) → Environment → Theories → List ℕ → Sorts → Judging (List Sort)
-  judge_sorts texts scopes theories params syntax.no_sorts = done []
-  judge_sorts texts scopes theories params (with_sort s ss) = do
-    t ← judge_sort texts scopes theories params s
-    ts ← judge_sorts texts scopes theories params ss
+  pub judge_sorts : List (List ℕ) → Declarations → Theories → List ℕ → Sorts → Judging (List Sort)
+  judge_sorts texts declarations theories params syntax.no_sorts = done []
+  judge_sorts texts declarations theories params (with_sort s ss) = do
+    t ← judge_sort texts declarations theories params s
+    ts ← judge_sorts texts declarations theories params ss
     done (t ∷ ts)
 
 -- The sort is well sorted with a tree, whatever names the command has declared so far; it declares none.
-abbrev pub SortOf : List (List ℕ) → Environment → Theories → List ℕ → syntax.Sort → Sort → Type 0
-SortOf texts scopes theories params s t = (before : List ℕ) → judge_sort texts scopes theories params s before (well_sorted t before)
+abbrev pub SortOf : List (List ℕ) → Declarations → Theories → List ℕ → syntax.Sort → Sort → Type 0
+SortOf texts declarations theories params s t = (before : List ℕ) → judge_sort texts declarations theories params s before (well_sorted t before)
 
 -- The first rule that the sort does not meet.
-abbrev pub SortFault : List (List ℕ) → Environment → Theories → List ℕ → syntax.Sort → Place → Type 0
-SortFault texts scopes theories params s place = (before : List ℕ) → judge_sort texts scopes theories params s before (ill_sorted place)
+abbrev pub SortFault : List (List ℕ) → Declarations → Theories → List ℕ → syntax.Sort → Place → Type 0
+SortFault texts declarations theories params s place = (before : List ℕ) → judge_sort texts declarations theories params s before (ill_sorted place)

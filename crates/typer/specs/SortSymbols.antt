@@ -6,11 +6,9 @@ use Rattle.std.specs.Str.{bytes_eq}
 use Rattle.sig_table.specs.declared.theories.Theories.{Theories}
 use Rattle.sort_store.specs.declared.head.Head.{Head}
 use Rattle.sort_store.specs.declared.head.Head.TheVariants as head
-use Rattle.sort_store.specs.Tree.{Sort, tree}
-use Rattle.scope_stack.specs.declared.entry.SortEntry.{SortEntry}
-use Rattle.scope_stack.specs.declared.entry.SortEntry.TheVariants as entry
+use Rattle.sort_store.specs.Tree.{Sort}
 use Rattle.scope_stack.specs.Levels.{found}
-use Rattle.scope_stack.specs.Environment.{Environment}
+use Rattle.typer.specs.Declarations.{SortDeclaration, free_sort, data_sort, defined_sort, Declarations}
 
 -- a sort symbol with its arity, or a defined sort with the number of its parameters and its body
 pub data Meaning : Type 0 where
@@ -38,19 +36,19 @@ abbrev pub is_bit_vector : List (List ℕ) → Theories → ℕ → Bool
 is_bit_vector texts theories name = theories.bits && is_text texts (codes "BitVec") name
 
 -- what a live declaration of the name stands for
-abbrev pub declared_symbol : ℕ → SortEntry → Meaning
-declared_symbol name (entry.Free number arity) = symbol_of (head.Free number name) arity
-declared_symbol name (entry.Data number arity) = symbol_of (head.Data number name) arity
-declared_symbol name (entry.Defined params sort) = definition_of params (tree sort)
+abbrev pub declared_symbol : ℕ → SortDeclaration → Meaning
+declared_symbol name (free_sort number arity) = symbol_of (head.Free number name) arity
+declared_symbol name (data_sort number arity) = symbol_of (head.Data number name) arity
+declared_symbol name (defined_sort params body) = definition_of params body
 
 abbrev pub or_else : {A : Type 0} → Option A → Option A → Option A
 or_else (Some x) other = Some x
 or_else None other = other
 
 -- a parameter of the command where the name is one, else a symbol of a theory or a live sort symbol
-abbrev pub meaning : List (List ℕ) → Environment → Theories → List ℕ → ℕ → Option Meaning
-meaning texts scopes theories params name =
-    or_else (parameter params name) (or_else (theory_symbol texts theories name) (option_map (declared_symbol name) (found name scopes.sorts)))
+abbrev pub meaning : List (List ℕ) → Declarations → Theories → List ℕ → ℕ → Option Meaning
+meaning texts declarations theories params name =
+    or_else (parameter params name) (or_else (theory_symbol texts theories name) (option_map (declared_symbol name) (found name declarations.sorts)))
 
 -- Core or a theory that the logic has uses the text for a sort
 abbrev pub is_theory_text : Theories → List ℕ → Bool

@@ -1,10 +1,9 @@
 //! Sorts of a sort symbol and arguments whose sorts are known.
-ghost use Rattle.std.specs.Prelude.{◌≡◌, ◌<◌, IfOk, OnOk, length, map};
+ghost use Rattle.std.specs.Prelude.{◌≡◌, IfOk, OnOk, map};
 ghost use Rattle.sort_store.specs.Instance.{ParamsBelow};
 ghost use Rattle.sort_store.specs.Interned.{IsInterned, AllInterned, HasNoRepeats, Grows};
 ghost use Rattle.sort_store.specs.Tree.{tree};
 ghost use Rattle.typer.specs.Answers.{Answers, tree_answer};
-ghost use Rattle.typer.specs.Names.{AreNames};
 ghost use Rattle.typer.specs.SortRules.{judge_symbol, judge_definition};
 
 use crate::error::{TyError, fault};
@@ -48,7 +47,6 @@ pub(crate) fn definition_sort(
     body: &SortRef,
 ) -> Result<SortRef, TyError>
     requires interned { AllInterned sorts.old args.now }
-    requires names { AreNames names.now params.now }
     requires params { ParamsBelow arity (tree body.now) }
     ensures answer { Answers (tree_answer result)
         (judge_definition names.now params.now at (map tree args.now) arity (tree body.now)) }

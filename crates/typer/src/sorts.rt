@@ -1,17 +1,16 @@
 //! The sorts of raw sorts.
 ghost use Rattle.std.specs.Prelude.{◌≡◌, ◌<◌, ◌^◌, IfOk, OnOk, [], length, map};
-ghost use Rattle.lex_core.specs.Token.{AllInterned as AreTokens};
 ghost use Rattle.sort_store.specs.Interned.{IsInterned, AllInterned, HasNoRepeats, Grows};
 ghost use Rattle.sort_store.specs.Tree.{tree};
 ghost use Rattle.typer.specs.Answers.{Answers, tree_answer, trees_answer};
-ghost use Rattle.typer.specs.Names.{AreNames, IsIdentifierNamed, IsSortNamed, AreSortsNamed};
+ghost use Rattle.typer.specs.Declarations.{declarations_of};
 ghost use Rattle.typer.specs.Ready.{IsReady, IsReadySchema};
 ghost use Rattle.typer.specs.SortRules.{only_numeral as only_numeral_of, judge_sort, judge_sorts, judge_identifier, judge_name, judge_indexed};
 
 use crate::apply::{definition_sort, symbol_sort};
 use crate::error::{TyError, fault};
 use crate::numeral::numeral_value;
-use crate::symbol::{is_bit_vector, parameter, theory_symbol};
+use crate::symbol::{is_bit_vector, parameter, text_of, theory_symbol};
 use crate::world::World;
 use lex_core::{NameId, Tok};
 use scope_stack::SortEntry;
@@ -40,8 +39,6 @@ fn indexed_sort(
     name: Tok,
     indices: &RawIndices,
 ) -> Result<SortRef, TyError>
-    requires name { name.name < length world.old.names }
-    requires indices { AreTokens world.old.names indices.now }
     ensures answer { Answers (tree_answer result)
         (judge_indexed world.old.names world.old.theories at (map tree args.now) name indices.now) }
     ensures interned { IfOk result (λ r. IsInterned world.new.sorts r) }
@@ -58,7 +55,7 @@ fn indexed_sort(
     let Some(index) = only_numeral(indices) else {
         return Err(fault(Code::WrongIndex, at));
     };
-    let Some(width) = numeral_value(world.names.text(index.name)) else {
+    let Some(width) = numeral_value(text_of(&world.names, index.name)) else {
         return Err(fault(Code::NumberTooLarge, at));
     };
     if width == 0 {
@@ -76,11 +73,9 @@ fn name_sort(
     name: NameId,
 ) -> Result<SortRef, TyError>
     requires ready { IsReady world.old }
-    requires params { AreNames world.old.names params.now }
-    requires name { name < length world.old.names }
     requires args { AllInterned world.old.sorts args.now }
     ensures answer { Answers (tree_answer result)
-        (judge_name world.old.names world.old.scopes world.old.theories params.now at (map tree args.now) name) }
+        (judge_name world.old.names (declarations_of world.old.scopes) world.old.theories params.now at (map tree args.now) name) }
     ensures interned { IfOk result (λ r. IsInterned world.new.sorts r) }
     ensures grows { Grows world.old.sorts world.new.sorts }
     ensures distinct { OnOk result (HasNoRepeats world.new.sorts) }
@@ -144,11 +139,9 @@ fn identifier_sort(
     identifier: &RawIdentifier,
 ) -> Result<SortRef, TyError>
     requires ready { IsReady world.old }
-    requires params { AreNames world.old.names params.now }
-    requires names { IsIdentifierNamed world.old.names identifier.now }
     requires args { AllInterned world.old.sorts args.now }
     ensures answer { Answers (tree_answer result)
-        (judge_identifier world.old.names world.old.scopes world.old.theories params.now at (map tree args.now) identifier.now) }
+        (judge_identifier world.old.names (declarations_of world.old.scopes) world.old.theories params.now at (map tree args.now) identifier.now) }
     ensures interned { IfOk result (λ r. IsInterned world.new.sorts r) }
     ensures grows { Grows world.old.sorts world.new.sorts }
     ensures distinct { OnOk result (HasNoRepeats world.new.sorts) }
@@ -167,10 +160,8 @@ fn identifier_sort(
 #[tactic(auto, using(crate::proofs::ReadyKept::ready_words))]
 fn type_sorts(world: &mut World, params: &[NameId], raws: RawSorts) -> Result<Vec<SortRef>, TyError>
     requires ready { IsReady world.old }
-    requires params { AreNames world.old.names params.now }
-    requires names { AreSortsNamed world.old.names raws }
     ensures answer { Answers (trees_answer result)
-        (judge_sorts world.old.names world.old.scopes world.old.theories params.now raws.entry) }
+        (judge_sorts world.old.names (declarations_of world.old.scopes) world.old.theories params.now raws.entry) }
     ensures interned { IfOk result (λ v. AllInterned world.new.sorts v.items) }
     ensures grows { Grows world.old.sorts world.new.sorts }
     ensures others { world.new ≡ record world.old { sorts = world.new.sorts } }
@@ -199,10 +190,8 @@ fn type_sorts(world: &mut World, params: &[NameId], raws: RawSorts) -> Result<Ve
 #[tactic(auto, using(crate::proofs::ReadyKept::ready_words))]
 pub fn type_sort(world: &mut World, params: &[NameId], raw: RawSort) -> Result<SortRef, TyError>
     requires ready { IsReady world.old }
-    requires params { AreNames world.old.names params.now }
-    requires names { IsSortNamed world.old.names raw }
     ensures answer { Answers (tree_answer result)
-        (judge_sort world.old.names world.old.scopes world.old.theories params.now raw.entry) }
+        (judge_sort world.old.names (declarations_of world.old.scopes) world.old.theories params.now raw.entry) }
 
     // The sort may stand in a declaration with these parameters.
     ensures schema { IfOk result (λ r. IsReadySchema world.new.names world.new.sorts (length params.now) r) }

@@ -1,8 +1,7 @@
 //! Sort symbols: what their names stand for.
-ghost use Rattle.std.specs.Prelude.{◌≡◌, ◌==◌, ◌<◌, length, option_map};
+ghost use Rattle.std.specs.Prelude.{◌≡◌, ◌==◌, [], option_map, slice_index_or};
 ghost use Rattle.std.specs.List.{list_any, position};
 ghost use Rattle.sort_store.specs.Tree.{tree};
-ghost use Rattle.typer.specs.Names.{AreNames};
 ghost use Rattle.typer.specs.SortRules.{is_captured as head_is_captured, has_captured as sort_has_captured};
 ghost use Rattle.typer.specs.SortSymbols.{symbol_of, theory_symbol as symbol_of_theory, is_text as name_is_text, is_bit_vector as name_is_bit_vector, is_theory_sort as name_is_theory_sort};
 
@@ -10,12 +9,22 @@ use lex_core::{NameId, Names};
 use sig_table::Theories;
 use sort_store::{Head, SortRef};
 
+/// The text of a name; the empty text where the table has no such number.
+pub(crate) fn text_of(names: &Names, name: NameId) -> &[u8]
+    ensures { result.now ≡ slice_index_or names.now name [] }
+{
+    if (name.number() as usize) < names.count() {
+        names.text(name)
+    } else {
+        &[]
+    }
+}
+
 // Whether the name has the text.
 fn is_text(names: &Names, name: NameId, text: &[u8]) -> bool
-    requires { name < length names.now }
     ensures { result ≡ name_is_text names.now text.now name }
 {
-    names.text(name) == text
+    text_of(names, name) == text
 }
 
 /// The place of the name among the parameters.
@@ -27,7 +36,6 @@ pub(crate) fn parameter(params: &[NameId], name: NameId) -> Option<usize>
 
 /// The sort symbol of Core or of a theory that the name is, with its arity.
 pub(crate) fn theory_symbol(names: &Names, theories: &Theories, name: NameId) -> Option<(Head, u32)>
-    requires { name < length names.now }
     ensures { option_map (λ p. symbol_of p.0 p.1) result ≡ symbol_of_theory names.now theories.now name }
 {
     if is_text(names, name, b"Bool") {
@@ -44,7 +52,6 @@ pub(crate) fn theory_symbol(names: &Names, theories: &Theories, name: NameId) ->
 
 // Whether one of the names has the text.
 fn has_text(names: &Names, some: &[NameId], text: &[u8]) -> bool
-    requires { AreNames names.now some.now }
     ensures { result ≡ list_any (name_is_text names.now text.now) some.now }
 {
     for name in some {
@@ -65,7 +72,6 @@ fn is_one_of(name: NameId, some: &[NameId]) -> bool
 /// Whether a theory or Core uses the name for a sort: the names of its sort symbols (SMT-LIB 2.6,
 /// theory declarations), `BitVec` among them.
 pub fn is_theory_sort(names: &Names, theories: &Theories, name: NameId) -> bool
-    requires { name < length names.now }
     ensures { result ≡ name_is_theory_sort names.now theories.now name }
 {
     is_text(names, name, b"Bool")
@@ -76,7 +82,6 @@ pub fn is_theory_sort(names: &Names, theories: &Theories, name: NameId) -> bool
 
 // Whether the name begins `(_ BitVec m)`.
 pub(crate) fn is_bit_vector(names: &Names, theories: &Theories, name: NameId) -> bool
-    requires { name < length names.now }
     ensures { result ≡ name_is_bit_vector names.now theories.now name }
 {
     theories.bits && is_text(names, name, b"BitVec")
@@ -84,7 +89,6 @@ pub(crate) fn is_bit_vector(names: &Names, theories: &Theories, name: NameId) ->
 
 // Whether the sort symbol has the name of one of the parameters.
 fn is_captured(names: &Names, params: &[NameId], head: Head) -> bool
-    requires { AreNames names.now params.now }
     ensures { result ≡ head_is_captured names.now params.now head }
 {
     match head {
@@ -101,7 +105,6 @@ fn is_captured(names: &Names, params: &[NameId], head: Head) -> bool
 /// Whether some sort symbol of the sort has the name of one of the parameters.
 #[tactic(auto, using(crate::proofs::CapturedSymbols::captured_words))]
 pub(crate) fn has_captured(names: &Names, params: &[NameId], sort: &SortRef) -> bool
-    requires { AreNames names.now params.now }
     ensures { result ≡ sort_has_captured names.now params.now (tree sort.now) }
 {
     if is_captured(names, params, sort.head()) {

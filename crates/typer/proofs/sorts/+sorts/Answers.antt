@@ -1,14 +1,13 @@
 use Rattle.std.proofs.Common.{sym, ap, subst, arith}
 use Rattle.sort_store.proofs.GrownStores.{grows_more, all_interned_push, all_interned_grown}
 use Rattle.sort_store.specs.Interned.{AllInterned}
-use Rattle.typer.specs.Names.{AreNames, IsSortNamed, AreSortsNamed}
 use Rattle.typer.proofs.SortSteps.{sizes, left, left_is, others_more, of_identifier, of_applied, turn_step, turn_fault, no_turn}
 use Rattle.typer.proofs.SortsReady.{schema_of}
 use Rattle.typer.proofs.sorts.+sorts.Goals as goal
 
 pub type_sort-returns-in-Identifier-clause-schema : goal.type_sort-returns-in-Identifier-clause-schema
 type_sort-returns-in-Identifier-clause-schema t c =
-    schema_of c.args.world.now c.identifier_sort.new.world c.args.params.now c.args.raw c.identifier_sort.result c.requires.ready c.requires.names c.identifier_sort.ensures.others
+    schema_of c.args.world.now c.identifier_sort.new.world c.args.params.now c.args.raw c.identifier_sort.result c.requires.ready c.identifier_sort.ensures.others
     (of_identifier c.args.world.now c.args.params.now c.args.raw c.in-Identifier.identifier c.at-at.result c.identifier_sort.result c.in-Identifier.ensures c.at-at.ensures c.identifier_sort.ensures.answer)
     c.identifier_sort.ensures.interned
 
@@ -19,24 +18,14 @@ type_sort-returns-in-Ok-clause-answer t c =
 
 pub type_sort-returns-in-Ok-clause-schema : goal.type_sort-returns-in-Ok-clause-schema
 type_sort-returns-in-Ok-clause-schema t c =
-    schema_of c.args.world.now c.identifier_sort-in-Applied.new.world c.args.params.now c.args.raw c.identifier_sort-in-Applied.result c.requires.ready c.requires.names
+    schema_of c.args.world.now c.identifier_sort-in-Applied.new.world c.args.params.now c.args.raw c.identifier_sort-in-Applied.result c.requires.ready
     (others_more c.args.world.now c.type_sorts.new.world _ c.in-Ok.ensures.others c.identifier_sort-in-Applied.ensures.others)
     (of_applied c.args.world.now c.type_sorts.new.world c.args.params.now c.args.raw c.in-Applied.identifier c.in-Applied.args c.at-at.result c.in-Ok.args.items c.deref.result.now c.identifier_sort-in-Applied.result
     c.in-Applied.ensures c.at-at.ensures c.in-Ok.ensures.others c.in-Ok.ensures.answer c.deref.ensures.value c.identifier_sort-in-Applied.ensures.answer)
     c.identifier_sort-in-Applied.ensures.interned
 
 pub type_sorts-type_sort-requires : goal.type_sorts-type_sort-requires
-type_sorts-type_sort-requires t c =
-    let named = subst (λ z. AreSortsNamed c.args.world.now.names (left z)) c.in-Some.is c.loop-next.invariant.named in (
-      omega (arith, c.decreases, c.loop-next.invariant.smaller, ap sizes (ap left c.in-Some.is)),
-      (
-        c.loop-next.invariant.ready,
-        (
-          subst (λ w. AreNames w.names c.args.params.now) (sym c.loop-next.invariant.others) c.requires.params,
-          subst (λ w. IsSortNamed w.names c.in-Some.first) (sym c.loop-next.invariant.others) named.0,
-        ),
-      ),
-    )
+type_sorts-type_sort-requires t c = (omega (arith, c.decreases, c.loop-next.invariant.smaller, ap sizes (ap left c.in-Some.is)), c.loop-next.invariant.ready)
 
 pub type_sorts-returns-in-Err-clause-answer : goal.type_sorts-returns-in-Err-clause-answer
 type_sorts-returns-in-Err-clause-answer t c =
@@ -45,7 +34,6 @@ type_sorts-returns-in-Err-clause-answer t c =
 
 pub type_sorts-loop-next-preserved : goal.type_sorts-loop-next-preserved
 type_sorts-loop-next-preserved t c =
-    let named = subst (λ z. AreSortsNamed c.args.world.now.names (left z)) c.in-Some.is c.loop-next.invariant.named in
     let rest = left_is _ _ c.split-next-in-Some.ensures in
     record {
       onward = turn_step c.args.world.now c.loop-next.world c.loop-next.invariant.others c.args.params.now c.args.raws (left c.loop-next.next) c.in-Some.rest c.in-Some.first c.loop-next.sorts.items
@@ -55,7 +43,6 @@ type_sorts-loop-next-preserved t c =
       grows = grows_more c.args.world.now.sorts c.loop-next.world.sorts _ c.loop-next.invariant.grows c.in-Ok.ensures.grows;
       others = others_more c.args.world.now c.loop-next.world _ c.loop-next.invariant.others c.in-Ok.ensures.others;
       ready = c.in-Ok.ensures.ready;
-      named = subst (AreSortsNamed c.args.world.now.names) (sym rest) named.1;
       smaller = omega (arith, c.loop-next.invariant.smaller, ap sizes (ap left c.in-Some.is), ap sizes rest);
     }
 

@@ -2,7 +2,6 @@ use Rattle.std.proofs.Common.{ℕ, ◌≤◌, List, map}
 use Rattle.judgement.specs.Judging.{Outcome}
 use Rattle.sort_store.specs.Tree.{Sort, tree}
 use Rattle.sort_store.specs.Interned.{AllInterned, Grows}
-use Rattle.typer.specs.Names.{AreSortsNamed}
 use Rattle.typer.specs.Ready.{IsReady}
 use Rattle.typer.proofs.SortSteps.{size, sizes, left, prefixed, sorts_in, OthersStay}
 use Rattle.typer.proofs.sorts.+sorts.Given as goal
@@ -21,7 +20,6 @@ invariant-type_sorts-loop-next l = record {
   grows : Grows l.fn.world.sorts l.world.sorts;
   others : OthersStay l.fn.world l.world;
   ready : IsReady l.world;
-  named : AreSortsNamed l.fn.world.names (left l.next);
   smaller : sizes (left l.next) ≤ sizes l.fn.raws;
 }
 

@@ -1,10 +1,11 @@
-use Rattle.std.proofs.Common.{◌∙◌, sym, ap, subst, map, Some}
+use Rattle.std.proofs.Common.{◌∙◌, sym, ap, subst, map, Some, Err}
 use Rattle.sort_store.specs.declared.head.Head.TheVariants as head
-use Rattle.sort_store.specs.Tree.{tree}
+use Rattle.sort_store.specs.Tree.{Sort, tree}
+use Rattle.typer.specs.Declarations.{declarations_of}
 use Rattle.typer.specs.Answers.{Answers, tree_answer}
 use Rattle.typer.specs.SortSymbols.{symbol_of, definition_of}
-use Rattle.typer.specs.SortRules.{judge_symbol}
-use Rattle.typer.proofs.NameSteps.{ready_found, parameter_means, theory_means, live_means, name_step}
+use Rattle.typer.specs.SortRules.{judge_symbol, judge_name}
+use Rattle.typer.proofs.NameSteps.{ready_found, parameter_means, theory_means, live_means, name_step, name_unknown}
 use Rattle.typer.proofs.sorts.name_sort.Goals as goal
 
 pub returns-in-Some-clause-answer : goal.returns-in-Some-clause-answer
@@ -39,3 +40,10 @@ returns-in-Some-Defined-clause-answer c =
     name_step c.args.world.now c.args.params.now c.args.name _ (map tree c.args.args.now) (definition_of c.in-Some-Defined.arity (tree c.in-Some-Defined.sort)) (tree_answer c.definition_sort.result)
     (live_means c.args.world.now c.args.params.now c.args.name _ (sym c.in_default.ensures) (sym c.in_default-theory_symbol.ensures) (sym c.in-Some-Defined.ensures ∙ ap Some c.in-Some-Defined.field-0-is))
     c.definition_sort.ensures.answer
+
+pub returns-in-None-clause-answer : goal.returns-in-None-clause-answer
+returns-in-None-clause-answer c =
+    subst (λ e. Answers {A = Sort} (Err e) (judge_name c.args.world.now.names (declarations_of c.args.world.now.scopes) c.args.world.now.theories c.args.params.now c.args.at (map tree c.args.args.now) c.args.name))
+    (sym c.fault.ensures)
+    (name_unknown c.args.world.now c.args.params.now c.args.name c.args.at (map tree c.args.args.now)
+    (live_means c.args.world.now c.args.params.now c.args.name _ (sym c.in_default.ensures) (sym c.in_default-theory_symbol.ensures) (sym c.in-None.ensures)))
