@@ -4,6 +4,9 @@ use Rattle.std.specs.Prelude.{Vec}
 use Rattle.std.specs.Global.{Global}
 use Rattle.judgement.specs.Judging.{Judging, well_sorted, ill_sorted}
 use Rattle.sort_store.specs.Tree.{Sort, NumberedSort, tree}
+use Rattle.sig_table.specs.declared.code.Code.TheVariants.{SortTooLarge}
+use Rattle.sort_store.specs.declared.error.SortError.{SortError}
+use Rattle.sort_store.specs.declared.error.SortError.TheVariants as store
 use Rattle.typer.specs.declared.error.TyError.{TyError}
 use Rattle.typer.specs.declared.error.TyError.TheVariants as error
 
@@ -22,3 +25,8 @@ tree_answer (Err e) = Err e
 abbrev pub trees_answer : Result (Vec NumberedSort Global) TyError → Result (List Sort) TyError
 trees_answer (Ok v) = Ok (map tree v.items)
 trees_answer (Err e) = Err e
+
+-- the fault of a sort that the store did not make
+abbrev pub fault_of_store : SortError → ℕ → TyError
+fault_of_store store.TooLarge at = error.Fault (record { code = SortTooLarge; at = at })
+fault_of_store store.NoMemory at = error.NoMemory

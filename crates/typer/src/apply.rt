@@ -1,9 +1,9 @@
 //! Sorts of a sort symbol and arguments whose sorts are known.
-ghost use Rattle.std.specs.Prelude.{◌≡◌, IfOk, OnOk, map};
+ghost use Rattle.std.specs.Prelude.{◌≡◌, ◌↔◌, IfOk, OnOk, IsTrue, length, map};
 ghost use Rattle.sort_store.specs.Instance.{ParamsBelow};
 ghost use Rattle.sort_store.specs.Interned.{IsInterned, AllInterned, HasNoRepeats, Grows};
 ghost use Rattle.sort_store.specs.Tree.{tree};
-ghost use Rattle.typer.specs.Answers.{Answers, tree_answer};
+ghost use Rattle.typer.specs.Answers.{Answers, tree_answer, fault_of_store};
 ghost use Rattle.typer.specs.SortRules.{judge_symbol, judge_definition};
 
 use crate::error::{TyError, fault};
@@ -11,6 +11,23 @@ use crate::symbol::has_captured;
 use lex_core::{NameId, Names};
 use sig_table::Code;
 use sort_store::{Head, SortError, SortRef, SortStore};
+
+// Whether there are as many arguments as the arity.
+fn has_arity(args: &[SortRef], arity: u32) -> bool
+    ensures { IsTrue result ↔ (length args.now ≡ arity) }
+{
+    args.len() == arity as usize
+}
+
+// Why the store did not make a sort that begins at a byte.
+fn not_made(error: SortError, at: u32) -> TyError
+    ensures { result ≡ fault_of_store error at }
+{
+    match error {
+        SortError::TooLarge => fault(Code::SortTooLarge, at),
+        SortError::NoMemory => TyError::NoMemory,
+    }
+}
 
 /// The sort of a sort symbol with its arguments, which begins at a byte.
 pub(crate) fn symbol_sort(
@@ -26,13 +43,12 @@ pub(crate) fn symbol_sort(
     ensures grows { Grows sorts.old sorts.new }
     ensures distinct { OnOk result (HasNoRepeats sorts.new) }
 {
-    if args.len() != arity as usize {
+    if !has_arity(args, arity) {
         return Err(fault(Code::WrongSortArity, at));
     }
     match sorts.make(head, args) {
         Ok(sort) => Ok(sort),
-        Err(SortError::TooLarge) => Err(fault(Code::SortTooLarge, at)),
-        Err(SortError::NoMemory) => Err(TyError::NoMemory),
+        Err(error) => Err(not_made(error, at)),
     }
 }
 
@@ -54,7 +70,7 @@ pub(crate) fn definition_sort(
     ensures grows { Grows sorts.old sorts.new }
     ensures distinct { OnOk result (HasNoRepeats sorts.new) }
 {
-    if args.len() != arity as usize {
+    if !has_arity(args, arity) {
         return Err(fault(Code::WrongSortArity, at));
     }
     match sorts.inst(body, args) {
@@ -64,7 +80,6 @@ pub(crate) fn definition_sort(
             }
             Ok(sort)
         }
-        Err(SortError::TooLarge) => Err(fault(Code::SortTooLarge, at)),
-        Err(SortError::NoMemory) => Err(TyError::NoMemory),
+        Err(error) => Err(not_made(error, at)),
     }
 }

@@ -170,10 +170,7 @@ fn type_sorts(world: &mut World, params: &[NameId], raws: RawSorts) -> Result<Ve
     let mut sorts = Vec::new(world.alloc);
     let mut next = raws.split();
     while let Some((first, rest)) = next {
-        let sort = match type_sort(world, params, first) {
-            Ok(sort) => sort,
-            Err(e) => return Err(e),
-        };
+        let sort = type_sort(world, params, first)?;
         match sorts.push(sort) {
             Ok(()) => {}
             Err(_) => return Err(TyError::NoMemory),
@@ -204,10 +201,7 @@ pub fn type_sort(world: &mut World, params: &[NameId], raw: RawSort) -> Result<S
     match raw.kind() {
         RawSortKind::Identifier(identifier) => identifier_sort(world, params, at, &[], &identifier),
         RawSortKind::Applied { identifier, args } => {
-            let args = match type_sorts(world, params, args) {
-                Ok(args) => args,
-                Err(e) => return Err(e),
-            };
+            let args = type_sorts(world, params, args)?;
             identifier_sort(world, params, at, &args, &identifier)
         }
     }

@@ -1,7 +1,5 @@
 //! Sorts and faults, worked by hand from the rules.
-ghost use Rattle.std.specs.Prelude.{◌≡◌, ◌<◌, ◌+◌, ◌≤◌, ◌^◌, IfOk, IfSome, IsTrue, length};
-ghost use Rattle.lex_core.specs.Token.{AllInterned};
-ghost use Rattle.typer.specs.Names.{AreNames, IsIdentifierNamed, IsSortNamed, AreSortsNamed};
+ghost use Rattle.std.specs.Prelude.{◌≡◌, ◌<◌, ◌+◌, ◌≤◌, ◌^◌, IfOk, IsTrue, length};
 ghost use Rattle.typer.specs.Ready.{IsReady, IsReadySchema, IsReadySortEntry};
 
 use crate::{TyError, World, is_theory_sort, type_sort};
@@ -13,9 +11,7 @@ use sort_store::{DeclNo, SortRef};
 use std::alloc::Global;
 use std::process::Abort;
 use std::test::Fail;
-use term_grammar::{
-    RawIdentifier, RawIdentifierKind, RawIndices, RawSort, RawSortKind, RawSorts, read_sort,
-};
+use term_grammar::{RawIdentifier, RawIdentifierKind, RawSort, RawSortKind, read_sort};
 
 type Row = (&'static [u8], &'static [u8], &'static [u8], u32);
 
@@ -91,59 +87,6 @@ fn is_named(names: &Names, name: NameId) -> bool
     (name.number() as usize) < names.count()
 }
 
-fn are_named(names: &Names, some: &[NameId]) -> bool
-    ensures { IsTrue result → AreNames names.now some.now }
-{
-    for name in some {
-        if !is_named(names, *name) {
-            return false;
-        }
-    }
-    true
-}
-
-fn are_tokens_named(names: &Names, indices: &RawIndices) -> bool
-    ensures { IsTrue result → AllInterned names.now indices.now }
-{
-    match indices.split() {
-        None => true,
-        Some((first, rest)) => is_named(names, first.name) && are_tokens_named(names, &rest),
-    }
-}
-
-fn is_identifier_named(names: &Names, identifier: &RawIdentifier) -> bool
-    ensures { IsTrue result → IsIdentifierNamed names.now identifier.now }
-{
-    match identifier.kind() {
-        RawIdentifierKind::Symbol(tok) => is_named(names, tok.name),
-        RawIdentifierKind::Indexed { name, indices } => {
-            is_named(names, name.name) && are_tokens_named(names, &indices)
-        }
-    }
-}
-
-#[cycle(named)]
-fn is_sort_named(names: &Names, raw: &RawSort) -> bool
-    ensures { IsTrue result → IsSortNamed names.now raw.now }
-{
-    match raw.kind() {
-        RawSortKind::Identifier(identifier) => is_identifier_named(names, &identifier),
-        RawSortKind::Applied { identifier, args } => {
-            is_identifier_named(names, &identifier) && are_sorts_named(names, &args)
-        }
-    }
-}
-
-#[cycle(named)]
-fn are_sorts_named(names: &Names, raws: &RawSorts) -> bool
-    ensures { IsTrue result → AreSortsNamed names.now raws.now }
-{
-    match raws.split() {
-        None => true,
-        Some((first, rest)) => is_sort_named(names, &first) && are_sorts_named(names, &rest),
-    }
-}
-
 fn give(builder: &mut Builder, tok: Tok) -> Option<Tree>
     requires { length builder.old.0 < 2 ^ 31 }
     ensures { length builder.new.0 ≤ length builder.old.0 + 1 }
@@ -181,10 +124,8 @@ fn tree_of(rt: &impl Abort, world: &mut World, text: &[u8]) -> Result<Option<Tre
     Ok(last_tree(&mut Builder::new(world.alloc), &toks))
 }
 
-// The first tree of a list, as a sort whose names are in the table.
-fn sort_in<'t>(names: &Names, tree: &'t Tree) -> Option<RawSort<'t>>
-    ensures { IfSome result (λ raw. IsSortNamed names.now raw) }
-{
+// The first tree of a list, as a sort.
+fn sort_in<'t>(tree: &'t Tree) -> Option<RawSort<'t>> {
     let (list, _) = Trees::of(tree).split()?;
     let Part::List { parts, .. } = list else {
         return None;
@@ -193,9 +134,6 @@ fn sort_in<'t>(names: &Names, tree: &'t Tree) -> Option<RawSort<'t>>
     let Ok(raw) = read_sort(part) else {
         return None;
     };
-    if !is_sort_named(names, &raw) {
-        return None;
-    }
     Some(raw)
 }
 
@@ -206,7 +144,7 @@ fn name_of(rt: &impl Abort, world: &mut World, text: &[u8]) -> Result<NameId, Fa
     ensures name { IfOk result (λ name. name < length world.new.names) }
 {
     let tree = tree_of(rt, world, text)?.expect(rt, "a list");
-    let raw = sort_in(&world.names, &tree).expect(rt, "a sort");
+    let raw = sort_in(&tree).expect(rt, "a sort");
     let name = match raw.kind() {
         RawSortKind::Identifier(identifier) => symbol_of(&identifier),
         RawSortKind::Applied { .. } => None,
@@ -235,8 +173,7 @@ fn sort_of(
     ensures schema { IfOk result (λ r. IfOk r (λ s. IsReadySchema world.new.names world.new.sorts (length params.now) s)) }
 {
     let tree = tree_of(rt, world, text)?.expect(rt, "a list");
-    let raw = sort_in(&world.names, &tree).expect(rt, "a sort");
-    assert!(rt; are_named(&world.names, params));
+    let raw = sort_in(&tree).expect(rt, "a sort");
     Ok(type_sort(world, params, raw))
 }
 
