@@ -1,1 +1,2 @@
 pub mod JudgementLaws
+pub mod NamesKept

@@ -59,3 +59,11 @@ pub record Decided {A : Type 0} (J : Judging A) (before : List ℕ) : Type 0 whe
 -- .. whatever names were declared before
 abbrev pub Lawful : {A : Type 0} → Judging A → Type 0
 Lawful J = (before : List ℕ) → Decided J before
+
+-- the names play no part: whatever they are, there is the same outcome, and none is declared
+abbrev pub KeepsOutcome : {A : Type 0} → Judging A → List ℕ → Outcome A → Type 0
+KeepsOutcome J before (well_sorted x after) = (after ≡ before) × ((other : List ℕ) → J other (well_sorted x other))
+KeepsOutcome J before (ill_sorted place) = (other : List ℕ) → J other (ill_sorted place)
+
+abbrev pub DeclaresNone : {A : Type 0} → Judging A → Type 0
+DeclaresNone {A} J = (before : List ℕ) (o : Outcome A) → J before o → KeepsOutcome J before o

@@ -1,0 +1,12 @@
+pub mod DeclarationsByTrees
+pub mod NumeralDigits
+pub mod SortLaws
+pub mod CapturedSymbols
+pub mod ApplySteps
+pub mod NameSteps
+pub mod IndexedSteps
+pub mod SortSteps
+pub mod ReadyKept
+pub mod SortsReady
+pub mod LiveDeclarations
+pub mod ReadyCalls

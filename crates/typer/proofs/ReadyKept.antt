@@ -1,0 +1,34 @@
+-- A world stays ready where its store of sorts alone has grown.
+use Rattle.std.proofs.Common.{ℕ, List, subst, sym}
+use Rattle.sort_store.specs.Tree.{Sort, NumberedSort}
+use Rattle.sort_store.specs.Interned.{Grows}
+use Rattle.sort_store.proofs.GrownStores.{interned_grown}
+use Rattle.scope_stack.specs.declared.entry.SortEntry.{SortEntry}
+use Rattle.scope_stack.specs.declared.entry.SortEntry.TheVariants as entry
+use Rattle.scope_stack.specs.declared.entry.FunEntry.{FunEntry}
+use Rattle.typer.specs.declared.world.World.{World}
+use Rattle.typer.specs.Ready.{IsReadySchema, IsReadySortEntry, IsReadyFunEntry, IsReady}
+use Rattle.typer.proofs.SortSteps.{OthersStay}
+
+module _ (texts : List (List ℕ)) (old new : List Sort) (grows : Grows old new) where
+  pub schema_grown : (params : ℕ) (r : NumberedSort) → IsReadySchema texts old params r → IsReadySchema texts new params r
+  schema_grown params r h = record { interned = interned_grown old new r grows h.interned; ready = h.ready }
+
+  entry_grown : (d : SortEntry) → IsReadySortEntry texts old d → IsReadySortEntry texts new d
+  entry_grown (entry.Free number arity) h = h
+  entry_grown (entry.Data number arity) h = h
+  entry_grown (entry.Defined params body) h = schema_grown params body h
+
+  fun_grown : (f : FunEntry) → IsReadyFunEntry texts old f → IsReadyFunEntry texts new f
+  fun_grown f h = record { args = λ i r l. schema_grown f.params _ (h.args i r l); result = schema_grown f.params f.result h.result; params = h.params }
+
+grown : (world : World) (store : List Sort) → Grows world.sorts store → IsReady world → IsReady (record world { sorts = store })
+grown world store g ready = record {
+  sorts = λ k d l. (let h = ready.sorts k d l in record { name = h.name; no_theory_sort = h.no_theory_sort; entry = entry_grown world.names world.sorts store g _ h.entry });
+  funs = λ k d l. (let h = ready.funs k d l in record { name = h.name; entry = fun_grown world.names world.sorts store g _ h.entry });
+}
+
+pub ready_kept : (old new : World) → OthersStay old new → Grows old.sorts new.sorts → IsReady old → IsReady new
+ready_kept old new e g ready = subst IsReady (sym e) (grown old new.sorts g ready)
+
+pub ruleset ready_words = (ready_kept, interned_grown)

@@ -1,0 +1,32 @@
+-- What a call that judges sorts answers.
+use Rattle.std.specs.Prelude.{ℕ, List, map, Result, Ok, Err, ⊤}
+use Rattle.std.specs.Prelude.{Vec}
+use Rattle.std.specs.Global.{Global}
+use Rattle.judgement.specs.Judging.{Judging, well_sorted, ill_sorted}
+use Rattle.sort_store.specs.Tree.{Sort, NumberedSort, tree}
+use Rattle.sig_table.specs.declared.code.Code.TheVariants.{SortTooLarge}
+use Rattle.sort_store.specs.declared.error.SortError.{SortError}
+use Rattle.sort_store.specs.declared.error.SortError.TheVariants as store
+use Rattle.typer.specs.declared.error.TyError.{TyError}
+use Rattle.typer.specs.declared.error.TyError.TheVariants as error
+
+-- Ok has the value that the thing is well sorted with, a fault has the place, and want of memory says nothing. The names
+-- that the command has declared play no part.
+abbrev pub Answers : {A : Type 0} → Result A TyError → Judging A → Type 0
+Answers (Ok x) J = (before : List ℕ) → J before (well_sorted x before)
+Answers (Err (error.Fault place)) J = (before : List ℕ) → J before (ill_sorted place)
+Answers (Err error.NoMemory) J = ⊤
+
+-- the trees of the sorts of an answer
+abbrev pub tree_answer : Result NumberedSort TyError → Result Sort TyError
+tree_answer (Ok r) = Ok (tree r)
+tree_answer (Err e) = Err e
+
+abbrev pub trees_answer : Result (Vec NumberedSort Global) TyError → Result (List Sort) TyError
+trees_answer (Ok v) = Ok (map tree v.items)
+trees_answer (Err e) = Err e
+
+-- the fault of a sort that the store did not make
+abbrev pub fault_of_store : SortError → ℕ → TyError
+fault_of_store store.TooLarge at = error.Fault (record { code = SortTooLarge; at = at })
+fault_of_store store.NoMemory at = error.NoMemory

@@ -1,0 +1,6 @@
+pub mod Declarations
+pub mod Numerals
+pub mod SortSymbols
+pub mod SortRules
+pub mod Answers
+pub mod Ready

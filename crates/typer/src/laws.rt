@@ -1,0 +1,21 @@
+//! The laws of the rules on sorts.
+ghost use Rattle.std.specs.Prelude.{ℕ, ◌≡◌, ◌⊎◌, List};
+ghost use Rattle.lex_core.specs.declared.place.Place.{Place};
+ghost use Rattle.sig_table.specs.declared.theories.Theories.{Theories};
+ghost use Rattle.sort_store.specs.Tree.{Sort};
+ghost use Rattle.term_grammar.specs.Syntax as syntax;
+ghost use Rattle.typer.specs.Declarations.{Declarations};
+ghost use Rattle.typer.specs.SortRules.{SortOf, SortFault};
+
+/// The laws of the rules on sorts: under any texts, declarations, theories and parameters a raw sort has
+/// one sort or one fault, and never both. It computes nothing: its contract states them.
+pub fn sort_laws()
+    ensures decided { (texts : List (List ℕ)) (declarations : Declarations) (theories : Theories) (params : List ℕ) (raw : syntax.Sort)
+        → ((t : Sort) × SortOf texts declarations theories params raw t) ⊎ ((place : Place) × SortFault texts declarations theories params raw place) }
+    ensures never_both { (texts : List (List ℕ)) (declarations : Declarations) (theories : Theories) (params : List ℕ) (raw : syntax.Sort) (t : Sort) (place : Place)
+        → SortOf texts declarations theories params raw t → SortFault texts declarations theories params raw place → ⊥ }
+    ensures sort_once { (texts : List (List ℕ)) (declarations : Declarations) (theories : Theories) (params : List ℕ) (raw : syntax.Sort) (t u : Sort)
+        → SortOf texts declarations theories params raw t → SortOf texts declarations theories params raw u → t ≡ u }
+    ensures fault_once { (texts : List (List ℕ)) (declarations : Declarations) (theories : Theories) (params : List ℕ) (raw : syntax.Sort) (p q : Place)
+        → SortFault texts declarations theories params raw p → SortFault texts declarations theories params raw q → p ≡ q }
+{}
