@@ -70,7 +70,7 @@ sort_dec_shown t d (e, h, k) =
 
 -- declarations of constructors
 
-constructor_is : (ts : Sexps Tok) (p : Tok × Sexps Tok) → constructor_dec_parts ts ≡ Some p → (ts ≡ cons (atom p.0) p.1) × IsTrue (is_symbol p.0) × IsTrue (are_named p.1)
+pub constructor_is : (ts : Sexps Tok) (p : Tok × Sexps Tok) → constructor_dec_parts ts ≡ Some p → (ts ≡ cons (atom p.0) p.1) × IsTrue (is_symbol p.0) × IsTrue (are_named p.1)
 constructor_is ts p h =
     option_and_then_some _ (symbol_first ts) p h (λ n a h1.
     option_and_then_some _ (guard (are_named n.1)) p h1 (λ u b h2.
@@ -108,12 +108,12 @@ constructors_read cs ts h = each_read read_constructor_dec ReadsConstructorDec i
 
 -- declarations of datatypes
 
-abbrev IsParametric : Sexps Tok → Sexps Tok × Sexps Tok → Type 0
+abbrev pub IsParametric : Sexps Tok → Sexps Tok × Sexps Tok → Type 0
 IsParametric ts p =
     (w : Tok) × (a : ℕ) × (b : ℕ) × (ts ≡ cons (atom w) (cons (list a p.0) (cons (list b p.1) nil))) × IsTrue (is_reserved PAR w)
     × NotEmpty p.0 × IsTrue (are_symbols p.0) × NotEmpty p.1 × IsTrue (are_constructor_decs p.1)
 
-parametric_is : (ts : Sexps Tok) (p : Sexps Tok × Sexps Tok) → parametric_parts ts ≡ Some p → IsParametric ts p
+pub parametric_is : (ts : Sexps Tok) (p : Sexps Tok × Sexps Tok) → parametric_parts ts ≡ Some p → IsParametric ts p
 parametric_is ts p h =
     option_and_then_some _ (token_first ts) p h (λ w a h1.
     option_and_then_some _ (guard (is_reserved PAR w.0)) p h1 (λ u1 a1 h2.
@@ -189,10 +189,10 @@ data_read t (parametric_data at ps cs) (w, a, b, us, e, h, n, s, q, r) =
 
 -- declarations and definitions of functions
 
-abbrev IsFunDec : Sexps Tok → Tok × Sexps Tok × Part → Type 0
+abbrev pub IsFunDec : Sexps Tok → Tok × Sexps Tok × Part → Type 0
 IsFunDec ts p = (a : ℕ) × (ts ≡ cons (atom p.0) (cons (list a p.1) (cons (whole p.2) nil))) × IsTrue (is_symbol p.0) × IsTrue (are_named p.1)
 
-fun_dec_is : (ts : Sexps Tok) (p : Tok × Sexps Tok × Part) → fun_dec_parts ts ≡ Some p → IsFunDec ts p
+pub fun_dec_is : (ts : Sexps Tok) (p : Tok × Sexps Tok × Part) → fun_dec_parts ts ≡ Some p → IsFunDec ts p
 fun_dec_is ts p h =
     option_and_then_some _ (symbol_first ts) p h (λ n a h1.
     option_and_then_some _ (list_first n.1) p h1 (λ v b h2.

@@ -11,7 +11,10 @@ use Rattle.cmd_grammar.specs.CommandWords.{command_begun_by}
 use Rattle.cmd_grammar.specs.CommandForms.{form_after, is_other, unknown, or_wrong, command_form}
 use Rattle.cmd_grammar.specs.CommandReads.{command_by, or_wrong_term, command_of_form, read_command}
 use Rattle.cmd_grammar.specs.FormGrammar.{HasForm}
-use Rattle.cmd_grammar.specs.Grammar.{ReadsCommand, BeginsCommand, IsGrammarFault}
+use Rattle.cmd_grammar.specs.Grammar.{ReadsCommand, BeginsCommand, form_positions, IsGrammarFault}
+use Rattle.term_grammar.specs.FormReading.{judged}
+use Rattle.term_grammar.proofs.FirstFaults.{first_fault, faults_sound, judged_err}
+use Rattle.cmd_grammar.proofs.PositionsJudged.{form_judged}
 use Rattle.cmd_grammar.proofs.FormsHave.{form_has}
 use Rattle.cmd_grammar.proofs.CommandsAgree.{FormReads, form_reads, command_shown}
 use Rattle.cmd_grammar.proofs.FormsFound.{form_found}
@@ -96,7 +99,8 @@ searched_fault : (t : Sexp Tok) (p : Place) → read_command t ≡ Err p → Fou
 searched_fault t p e (begins_none n k) = inl (n, same_place (unknown_at t) p (read_command t) (reading t ∙ ap command_of_form k) e)
 searched_fault t p e (has_no_form b k) = inr (inl (b, no_form t (wrong_at t) k, same_place (wrong_at t) p (read_command t) (reading t ∙ ap command_of_form k) e))
 searched_fault t p e (has_form f b h k) =
-    let (at, r, q) = no_command (command_by f) p (sym (ap command_of_form k) ∙ sym (reading t) ∙ e) in inr (inr (f, at, h, r, q))
+    let (at, r, q) = no_command (command_by f) p (sym (ap command_of_form k) ∙ sym (reading t) ∙ e) in
+    inr (inr (f, at, h, first_fault (form_positions f) at (sym (form_judged t f h) ∙ ap judged r), q))
 
 pub found_fault : (t : Sexp Tok) (p : Place) → read_command t ≡ Err p → IsGrammarFault t p
 found_fault t p e = searched_fault t p e (search_form t)
@@ -114,7 +118,9 @@ wrong_found t b n (has_form f c h k) = absurd (n f h)
 pub fault_found : (t : Sexp Tok) (p : Place) → IsGrammarFault t p → read_command t ≡ Err p
 fault_found t p (inl (n, e)) = unknown_found t n (search_form t) ∙ ap Err (sym e)
 fault_found t p (inr (inl (b, n, e))) = wrong_found t b n (search_form t) ∙ ap Err (sym e)
-fault_found t p (inr (inr (f, at, h, r, e))) = reading t ∙ ap command_of_form (form_found t f h) ∙ ap or_wrong_term r ∙ ap Err (sym e)
+fault_found t p (inr (inr (f, at, h, r, e))) =
+    let k = judged_err (command_by f) at (form_judged t f h ∙ faults_sound (form_positions f) at r) in
+    reading t ∙ ap command_of_form (form_found t f h) ∙ ap or_wrong_term k ∙ ap Err (sym e)
 
 -- The laws.
 

@@ -8,4 +8,5 @@ pub mod FormsFound
 pub mod EachAgrees
 pub mod DeclarationsAgree
 pub mod CommandsAgree
+pub mod PositionsJudged
 pub mod GrammarAgrees

@@ -1,6 +1,6 @@
 -- The grammar of commands (SMT-LIB 2.6, section 3.9): which trees are which commands, one case for each command, and what is
 -- wrong with a tree that is none.
-use Rattle.std.specs.Prelude.{◌≡◌, ◌⊎◌, ℕ, not, List, [], ◌∷◌, Err, IsTrue}
+use Rattle.std.specs.Prelude.{◌≡◌, ◌⊎◌, ℕ, not, List, [], ◌∷◌, IsTrue, ◌++◌}
 use Rattle.sig_table.specs.declared.code.Code.TheVariants as code
 use Rattle.lex_core.specs.declared.token.Tok.{Tok}
 use Rattle.lex_core.specs.declared.place.Place.{Place}
@@ -12,11 +12,15 @@ use Rattle.term_grammar.specs.Grammar.{NotEmpty, AreSymbols, ReadsSort, ReadsSor
 use Rattle.term_grammar.specs.Reads.{byte_of}
 use Rattle.cmd_grammar.specs.declared.command_word.CommandWord.{CommandWord}
 use Rattle.cmd_grammar.specs.declared.command_word.CommandWord.TheVariants as command
+use Rattle.cmd_grammar.specs.declared.declaration_form.FunDefParts.{FunDefParts}
 use Rattle.cmd_grammar.specs.declared.command_form.CommandForm.{CommandForm}
+use Rattle.cmd_grammar.specs.declared.command_form.CommandForm.TheVariants as form
+use Rattle.cmd_grammar.specs.declared.command_form.DeclarationForm.TheVariants as declaration
+use Rattle.term_grammar.specs.Faults.{Position, a_sort, a_term, sorts, terms, seconds, FirstFault}
+use Rattle.sexp_core.specs.Parts.{whole}
 use Rattle.cmd_grammar.specs.Commands.{SortDec, ConstructorDec, DataDec, plain_data, parametric_data, FunDec, FunDef, Literal, positive, negative, Command, assert, check_sat, check_sat_assuming, declare_const, declare_datatype, declare_datatypes, declare_fun, declare_sort, define_fun, define_fun_rec, define_funs_rec, define_sort, echo, exit, get_assertions, get_assignment, get_info, get_model, get_option, get_proof, get_unsat_assumptions, get_unsat_core, get_value, pop, push, reset, reset_assertions, set_info, set_logic, set_option}
 use Rattle.cmd_grammar.specs.CommandForms.{is_other}
 use Rattle.cmd_grammar.specs.FormGrammar.{Begins, attribute_fits, HasForm}
-use Rattle.cmd_grammar.specs.CommandReads.{command_by}
 
 -- the trees read one by one
 abbrev pub ReadsEach : {A : Type 0} → (Sexp Tok → A → Type 0) → Sexps Tok → List A → Type 0
@@ -101,6 +105,43 @@ ReadsCommand t (set_option a) = (ts : Sexps Tok) × Begins t command.SetOption t
 abbrev pub BeginsCommand : Sexp Tok → Type 0
 BeginsCommand t = (word : CommandWord) × (ts : Sexps Tok) × Begins t word ts × IsTrue (not (is_other word))
 
+-- the sorts in declarations of constructors
+abbrev pub constructor_positions : Sexps Tok → List Position
+constructor_positions (cons (list at (cons n us)) ts) = seconds a_sort us ++ constructor_positions ts
+constructor_positions _ = []
+
+-- the sorts in the declaration of a datatype
+abbrev pub data_dec_positions : Sexp Tok → List Position
+data_dec_positions (list at (cons (atom w) (cons ps (cons (list b us) nil)))) = constructor_positions us
+data_dec_positions (list at us) = constructor_positions us
+data_dec_positions (atom t) = []
+
+abbrev pub data_decs_positions : Sexps Tok → List Position
+data_decs_positions nil = []
+data_decs_positions (cons t ts) = data_dec_positions t ++ data_decs_positions ts
+
+-- the sorts in declarations of functions
+abbrev pub fun_dec_positions : Sexps Tok → List Position
+fun_dec_positions (cons (list at (cons n (cons (list a vs) (cons s us)))) ts) = seconds a_sort vs ++ a_sort s ∷ fun_dec_positions ts
+fun_dec_positions _ = []
+
+abbrev pub fun_def_positions : FunDefParts → List Position
+fun_def_positions f = seconds a_sort f.params ++ a_sort (whole f.result) ∷ a_term (whole f.body) ∷ []
+
+-- the trees in the positions of the sorts and terms of a command, in the order of the text
+abbrev pub form_positions : CommandForm → List Position
+form_positions (form.Complete k) = []
+form_positions (form.Declaration (declaration.Const n s)) = a_sort (whole s) ∷ []
+form_positions (form.Declaration (declaration.Datatype n d)) = data_dec_positions (whole d)
+form_positions (form.Declaration (declaration.Datatypes ss ds)) = data_decs_positions ds
+form_positions (form.Declaration (declaration.Fun n ss s)) = sorts ss ++ a_sort (whole s) ∷ []
+form_positions (form.Declaration (declaration.Sort n ps s)) = a_sort (whole s) ∷ []
+form_positions (form.Assert u) = a_term (whole u) ∷ []
+form_positions (form.DefineFun f) = fun_def_positions f
+form_positions (form.DefineFunRec f) = fun_def_positions f
+form_positions (form.DefineFunsRec ds bs) = fun_dec_positions ds ++ terms bs
+form_positions (form.GetValue us) = terms us
+
 -- What is wrong with a tree that is no command: it does not begin with the name of a command; or it has another form than
 -- that command's; or the first tree, left to right and a tree before its parts, in the position of a sort or a term that has
 -- the shape of no production.
@@ -108,4 +149,4 @@ abbrev pub IsGrammarFault : Sexp Tok → Place → Type 0
 IsGrammarFault t place =
     ((BeginsCommand t → ⊥) × (place ≡ record { code = code.UnknownCommand; at = byte_of t }))
     ⊎ ((BeginsCommand t × ((f : CommandForm) → HasForm t f → ⊥) × (place ≡ record { code = code.WrongCommandForm; at = byte_of t }))
-    ⊎ ((f : CommandForm) × (at : ℕ) × HasForm t f × (command_by f ≡ Err at) × (place ≡ record { code = code.WrongTermForm; at = at })))
+    ⊎ ((f : CommandForm) × (at : ℕ) × HasForm t f × FirstFault (form_positions f) at × (place ≡ record { code = code.WrongTermForm; at = at })))
