@@ -14,9 +14,7 @@ use Rattle.term_grammar.specs.Forms.{indexed_parts, is_identifier}
 use Rattle.term_grammar.specs.TermForms.{as_parts, constructor_parts, is_qualified, is_pattern, are_named, are_cases, are_notes, word_of}
 use Rattle.term_grammar.specs.Reads.{made_of, made_of_two, no_token, byte_of, indexed_by, identifier_of, pattern_by, pattern_of, read_sort, read_sorts, qualified_by, read_qualified, by_word, read_term, read_application, read_let, read_binder, read_match, read_annotation}
 use Rattle.term_grammar.specs.Readings.{sort_of, term_of}
-
-no_test : false ≡ true → ⊥
-no_test e = cc
+use Rattle.term_grammar.proofs.TokenKinds.{no_test}
 
 -- what is read, if anything is, begins at a byte
 abbrev BeginsAt : {A : Type 0} → (A → ℕ) → Result A ℕ → ℕ → Type 0

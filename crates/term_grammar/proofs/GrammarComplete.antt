@@ -30,7 +30,7 @@ made_two f (Ok a) (Ok b) P Q R h p q = h a b p q
 made_two f (Ok a) (Err e) P Q R h p q = tt
 made_two f (Err e) s P Q R h p q = tt
 
-choice : {A : Type 0} (b : Bool) (r s : Result A ℕ) (P : A → Type 0) → (b ≡ true → IfOk r P) → (b ≡ false → IfOk s P) → IfOk (if b then r else s) P
+pub choice : {A : Type 0} (b : Bool) (r s : Result A ℕ) (P : A → Type 0) → (b ≡ true → IfOk r P) → (b ≡ false → IfOk s P) → IfOk (if b then r else s) P
 choice true r s P h k = h refl
 choice false r s P h k = k refl
 
@@ -38,6 +38,7 @@ choice false r s P h k = k refl
 
 mutual
   unfolding read_sort
+
   pub sort_complete : (t : Sexp Tok) → IfOk (read_sort t) (ReadsSort t)
   sort_complete (atom t) = choice (is_identifier (atom t)) _ _ (ReadsSort (atom t)) (identifier_found (atom t)) (λ _. tt)
   sort_complete (list at nil) = tt
@@ -54,12 +55,12 @@ mutual
       made_two with_sort (read_sort t) (read_sorts ts) (ReadsSort t) (ReadsSorts ts) (ReadsSorts (cons t ts)) (λ s ss p q. (t, ts, refl, p, q)) (sort_complete t) (sorts_complete ts)
 
 -- the shape ( symbol tree )
-abbrev OneTree : Sexps Tok → Type 0
+abbrev pub OneTree : Sexps Tok → Type 0
 OneTree nil = ⊥
 OneTree (cons t nil) = Unit {0}
 OneTree (cons t (cons u us)) = ⊥
 
-named_test : (x : Tok) (r : Sexps Tok) (s : Bool)
+pub named_test : (x : Tok) (r : Sexps Tok) (s : Bool)
     → is_some {T = Tok × Part} (option_and_then (λ (n : Tok × Sexps Tok). option_and_then (λ (t : Part × Sexps Tok). option_and_then (λ _. Some (n.0, t.0)) (guard (is_empty t.1))) (any_first n.1)) (if s then Some (x, r) else None)) ≡ true
     → (s ≡ true) × OneTree r
 named_test x r false e = absurd (no_test e)
@@ -100,7 +101,7 @@ qualified_complete (list at ts) =
 
 -- terms
 
-case_test : (p : Part) (r : Sexps Tok) (q : Bool)
+pub case_test : (p : Part) (r : Sexps Tok) (q : Bool)
     → is_some {T = Part × Part} (option_and_then (λ _. option_and_then (λ (t : Part × Sexps Tok). option_and_then (λ _. Some (p, t.0)) (guard (is_empty t.1))) (any_first r)) (guard q)) ≡ true
     → (q ≡ true) × OneTree r
 case_test p r false e = absurd (no_test e)
@@ -109,14 +110,14 @@ case_test p (cons t nil) true e = (refl, tt)
 case_test p (cons t (cons u us)) true e = absurd (no_test e)
 
 -- the tests of an attribute that begins with a keyword and a token
-token_test : (n s o q a c : Bool) → (if n then s && a else o && (if q then a else c)) ≡ true
+pub token_test : (n s o q a c : Bool) → (if n then s && a else o && (if q then a else c)) ≡ true
     → (n ≡ true → (s ≡ true) × (a ≡ true)) × (n ≡ false → (o ≡ true) × (q ≡ true → a ≡ true) × (q ≡ false → c ≡ true))
 token_test true s o q a c e = (λ _. both_true s a e, λ f. absurd (no_test (sym f)))
 token_test false s o true a c e = (λ f. absurd (no_test f), λ _. let b = both_true o a e in (b.0, λ _. b.1, λ f. absurd (no_test (sym f))))
 token_test false s o false a c e = (λ f. absurd (no_test f), λ _. let b = both_true o c e in (b.0, λ f. absurd (no_test f), λ _. b.1))
 
 -- the tests of an attribute that begins with a keyword and a list
-list_test : (p m o a : Bool) → (if p then m && a else o && a) ≡ true → (p ≡ true → (m ≡ true) × (a ≡ true)) × (p ≡ false → (o ≡ true) × (a ≡ true))
+pub list_test : (p m o a : Bool) → (if p then m && a else o && a) ≡ true → (p ≡ true → (m ≡ true) × (a ≡ true)) × (p ≡ false → (o ≡ true) × (a ≡ true))
 list_test true m o a e = (λ _. both_true m a e, λ f. absurd (no_test (sym f)))
 list_test false m o a e = (λ f. absurd (no_test f), λ _. both_true o a e)
 
@@ -137,6 +138,7 @@ word_chosen at w ts word.Other r a b c d e = tt
 
 mutual
   unfolding read_term
+
   pub term_complete : (t : Sexp Tok) → IfOk (read_term t) (ReadsTerm t)
   term_complete (atom t) =
       choice (is_qualified (atom t)) _ _ (ReadsTerm (atom t)) (λ _. made qualified_term (read_qualified (atom t)) (ReadsQualified (atom t)) (ReadsTerm (atom t)) (λ q p. p) (qualified_complete (atom t)))

@@ -20,11 +20,11 @@ use Rattle.term_grammar.specs.Grammar.{NotEmpty, AreIndices, AreSymbols, ReadsId
 use Rattle.term_grammar.proofs.FormsRead.{whole-part_of}
 use Rattle.term_grammar.proofs.TokenKinds.{no_test, true_both, not_true, symbol_no_word, word_no_symbol, constant_no_symbol, keyword_no_value, key_is_keyword, is_other, let_begins, forall_begins, exists_begins, match_begins, annotation_begins}
 
-chosen : {A : Type 0} (b : Bool) (r s : A) → b ≡ true → (if b then r else s) ≡ r
+pub chosen : {A : Type 0} (b : Bool) (r s : A) → b ≡ true → (if b then r else s) ≡ r
 chosen true r s e = refl
 chosen false r s e = absurd (no_test e)
 
-other : {A : Type 0} (b : Bool) (r s : A) → b ≡ false → (if b then r else s) ≡ s
+pub other : {A : Type 0} (b : Bool) (r s : A) → b ≡ false → (if b then r else s) ≡ s
 other true r s e = absurd (no_test (sym e))
 other false r s e = refl
 
@@ -35,7 +35,7 @@ made_two : {A B C : Type 0} (f : A → B → C) (r : Result A ℕ) (s : Result B
 made_two f r s a b d e = ap (λ x. made_of_two f x s) d ∙ ap (made_of (f a)) e
 
 -- a word is no word of another number
-other_word : (m n : ℕ) (t : Tok) → (m == n) ≡ false → is_reserved m t ≡ true → is_reserved n t ≡ false
+pub other_word : (m n : ℕ) (t : Tok) → (m == n) ≡ false → is_reserved m t ≡ true → is_reserved n t ≡ false
 other_word m n t d e = two_numbers (reserved_kind t.kind) t.name e
   where
     two_numbers : (b : Bool) (k : ℕ) → (b && (k == m)) ≡ true → (b && (k == n)) ≡ false
@@ -62,26 +62,27 @@ identifier_sound t (indexed at x is) (w, e, r, s, n, i) =
     let p = indexed_is w x (atoms is) r s n (indices_tested is i) in
     (ap is_identifier e ∙ ap (λ (o : Option (Tok × Sexps Tok)). is_some o) p, ap identifier_of e ∙ ap (indexed_by at) p ∙ ap (indexed at x) (tokens_of-atoms is))
 
-no_list : (at : ℕ) (x : Tok) (ts : Sexps Tok) → is_reserved UNDERSCORE x ≡ false → is_identifier (list at (cons (atom x) ts)) ≡ false
+pub no_list : (at : ℕ) (x : Tok) (ts : Sexps Tok) → is_reserved UNDERSCORE x ≡ false → is_identifier (list at (cons (atom x) ts)) ≡ false
 no_list at x ts e = rw e refl
 
-applied_no_identifier : (at : ℕ) (h : Sexp Tok) (ts : Sexps Tok) (i : Identifier) → ReadsIdentifier h i → is_identifier (list at (cons h ts)) ≡ false
+pub applied_no_identifier : (at : ℕ) (h : Sexp Tok) (ts : Sexps Tok) (i : Identifier) → ReadsIdentifier h i → is_identifier (list at (cons h ts)) ≡ false
 applied_no_identifier at h ts (symbol x) (e, s) = ap (λ y. is_identifier (list at (cons y ts))) e ∙ no_list at x ts (symbol_no_word x UNDERSCORE s)
 applied_no_identifier at h ts (indexed b x is) (w, e, r, s, n, i) = ap (λ y. is_identifier (list at (cons y ts))) e
 
 -- sorts
 
-named_reads : (t : Sexp Tok) → is_identifier t ≡ true → read_sort t ≡ Ok (named_sort (identifier_of t))
+pub named_reads : (t : Sexp Tok) → is_identifier t ≡ true → read_sort t ≡ Ok (named_sort (identifier_of t))
 unfolding read_sort
 named_reads (atom t) e = chosen (is_identifier (atom t)) _ _ e
 named_reads (list at nil) e = absurd (no_test e)
 named_reads (list at (cons h ts)) e = chosen (is_identifier (list at (cons h ts))) _ _ e
 
-applied_reads : (at : ℕ) (h : Sexp Tok) (ts : Sexps Tok) (ss : Sorts) → is_identifier (list at (cons h ts)) ≡ false → is_identifier h ≡ true → NotEmpty ts → read_sorts ts ≡ Ok ss
-    → read_sort (list at (cons h ts)) ≡ Ok (applied_sort at (identifier_of h) ss)
+pub applied_is : (at : ℕ) (h : Sexp Tok) (ts : Sexps Tok) (i : Identifier) → ReadsIdentifier h i → NotEmpty ts
+    → read_sort (list at (cons h ts)) ≡ made_of (applied_sort at (identifier_of h)) (read_sorts ts)
 unfolding read_sort
-applied_reads at h ts ss d e n f =
-    other (is_identifier (list at (cons h ts))) _ _ d ∙ chosen (is_identifier h && not (is_empty ts)) _ _ (true_both _ _ e n) ∙ made (applied_sort at (identifier_of h)) (read_sorts ts) ss f
+applied_is at h ts i p n =
+    other (is_identifier (list at (cons h ts))) _ _ (applied_no_identifier at h ts i p)
+    ∙ chosen (is_identifier h && not (is_empty ts)) _ _ (true_both _ _ (identifier_sound h i p).0 n)
 
 no_sorts_read : read_sorts nil ≡ Ok no_sorts
 unfolding read_sort
@@ -95,8 +96,8 @@ mutual
   pub sort_sound : (s : Sort) (t : Sexp Tok) → ReadsSort t s → read_sort t ≡ Ok s
   sort_sound (named_sort i) t p = let h = identifier_sound t i p in named_reads t h.0 ∙ ap (λ j. Ok (named_sort j)) h.1
   sort_sound (applied_sort at i ss) t (h, ts, e, p, n, q) =
-      let k = identifier_sound h i p in
-      ap read_sort e ∙ applied_reads at h ts ss (applied_no_identifier at h ts i p) k.0 n (sorts_sound ss ts q) ∙ ap (λ j. Ok (applied_sort at j ss)) k.1
+      ap read_sort e ∙ applied_is at h ts i p n ∙ made (applied_sort at (identifier_of h)) (read_sorts ts) ss (sorts_sound ss ts q)
+      ∙ ap (λ j. Ok (applied_sort at j ss)) (identifier_sound h i p).1
 
   pub sorts_sound : (ss : Sorts) (ts : Sexps Tok) → ReadsSorts ts ss → read_sorts ts ≡ Ok ss
   sorts_sound no_sorts ts e = ap read_sorts e ∙ no_sorts_read
@@ -125,26 +126,27 @@ variables_sound (v ∷ vs) ts (u, us, e, s, p, q) =
 
 -- qualified identifiers
 
-as_is : (w : Tok) (h u : Sexp Tok) → is_reserved AS w ≡ true → is_identifier h ≡ true → as_parts (cons (atom w) (cons h (cons u nil))) ≡ Some (part_of h, part_of u)
+pub as_is : (w : Tok) (h u : Sexp Tok) → is_reserved AS w ≡ true → is_identifier h ≡ true → as_parts (cons (atom w) (cons h (cons u nil))) ≡ Some (part_of h, part_of u)
 as_is w (atom x) u r i = rw (r, i) refl
 as_is w (list at ts) u r i = rw (r, i) refl
 
-identifier_qualified : (t : Sexp Tok) → is_identifier t ≡ true → (read_qualified t ≡ Ok (unqualified (identifier_of t))) × (is_qualified t ≡ true)
+pub identifier_qualified : (t : Sexp Tok) → is_identifier t ≡ true → (read_qualified t ≡ Ok (unqualified (identifier_of t))) × (is_qualified t ≡ true)
 unfolding read_qualified
 identifier_qualified (atom t) e = (chosen (is_symbol t) _ _ e, ap (λ b. b || false) e)
 identifier_qualified (list at ts) e = (chosen (is_identifier (list at ts)) _ _ e, ap (λ b. b || is_as (list at ts)) e)
 
-as_qualified : (at : ℕ) (w : Tok) (h u : Sexp Tok) (s : Sort) → is_reserved AS w ≡ true → is_identifier h ≡ true → read_sort u ≡ Ok s
-    → (read_qualified (list at (cons (atom w) (cons h (cons u nil)))) ≡ Ok (qualified at (identifier_of h) s)) × (is_qualified (list at (cons (atom w) (cons h (cons u nil)))) ≡ true)
+pub as_qualified : (at : ℕ) (w : Tok) (h u : Sexp Tok) → is_reserved AS w ≡ true → is_identifier h ≡ true
+    → (read_qualified (list at (cons (atom w) (cons h (cons u nil)))) ≡ made_of (qualified at (identifier_of h)) (read_sort u)) × (is_qualified (list at (cons (atom w) (cons h (cons u nil)))) ≡ true)
 unfolding read_qualified
-as_qualified at w h u s r i e =
+as_qualified at w h u r i =
     let T = list at (cons (atom w) (cons h (cons u nil))) in
     let n : is_identifier T ≡ false = no_list at w (cons h (cons u nil)) (other_word AS UNDERSCORE w refl r) in
-    let a = as_is w h u r i in
-    (other (is_identifier T) _ _ n ∙ ap (qualified_by at) a
-    ∙ ap (λ (x : Sexp Tok). made_of (qualified at (identifier_of x)) (read_sort (whole (part_of u)))) (whole-part_of h)
-    ∙ made (qualified at (identifier_of h)) (read_sort (whole (part_of u))) s (ap read_sort (whole-part_of u) ∙ e),
-    ap (λ b. b || is_as T) n ∙ ap (λ (o : Option (Part × Part)). is_some o) a)
+    let a = as_is w h u r i in (
+      other (is_identifier T) _ _ n ∙ ap (qualified_by at) a
+          ∙ ap (λ (x : Sexp Tok). made_of (qualified at (identifier_of x)) (read_sort (whole (part_of u)))) (whole-part_of h)
+          ∙ ap (λ (x : Sexp Tok). made_of (qualified at (identifier_of h)) (read_sort x)) (whole-part_of u),
+      ap (λ b. b || is_as T) n ∙ ap (λ (o : Option (Part × Part)). is_some o) a,
+    )
 
 pub qualified_sound : (q : Qualified) (t : Sexp Tok) → ReadsQualified t q → (read_qualified t ≡ Ok q) × (is_qualified t ≡ true)
 qualified_sound (unqualified i) t p =
@@ -153,17 +155,24 @@ qualified_sound (unqualified i) t p =
     (k.0 ∙ ap (λ j. Ok (unqualified j)) h.1, k.1)
 qualified_sound (qualified at i s) t (w, h, u, e, r, p, q) =
     let k = identifier_sound h i p in
-    let m = as_qualified at w h u s r k.0 (sort_sound s u q) in
-    (ap read_qualified e ∙ m.0 ∙ ap (λ j. Ok (qualified at j s)) k.1, ap is_qualified e ∙ m.1)
+    let m = as_qualified at w h u r k.0 in
+    (ap read_qualified e ∙ m.0 ∙ made (qualified at (identifier_of h)) (read_sort u) s (sort_sound s u q) ∙ ap (λ j. Ok (qualified at j s)) k.1, ap is_qualified e ∙ m.1)
 
-no_qualified : (at : ℕ) (w : Tok) (ts : Sexps Tok) → is_reserved UNDERSCORE w ≡ false → is_reserved AS w ≡ false → is_qualified (list at (cons (atom w) ts)) ≡ false
+pub no_qualified : (at : ℕ) (w : Tok) (ts : Sexps Tok) → is_reserved UNDERSCORE w ≡ false → is_reserved AS w ≡ false → is_qualified (list at (cons (atom w) ts)) ≡ false
 no_qualified at w ts d e = rw (d, e) refl
 
-applied_no_qualified : (at : ℕ) (h : Sexp Tok) (ts : Sexps Tok) (q : Qualified) → ReadsQualified h q → is_qualified (list at (cons h ts)) ≡ false
-applied_no_qualified at h ts (unqualified (symbol x)) (e, s) =
+-- a tree that begins with the word `_` or `as`, or with no word, begins no qualified identifier
+pub symbol_head : (at : ℕ) (h : Sexp Tok) (ts : Sexps Tok) (i : Identifier) → ReadsIdentifier h i → is_qualified (list at (cons h ts)) ≡ false
+symbol_head at h ts (symbol x) (e, s) =
     ap (λ y. is_qualified (list at (cons y ts))) e ∙ no_qualified at x ts (symbol_no_word x UNDERSCORE s) (symbol_no_word x AS s)
-applied_no_qualified at h ts (unqualified (indexed b x is)) (w, e, r, s, n, i) = ap (λ y. is_qualified (list at (cons y ts))) e
-applied_no_qualified at h ts (qualified b i s) (w, k, u, e, r, p, q) = ap (λ y. is_qualified (list at (cons y ts))) e
+symbol_head at h ts (indexed b x is) (w, e, r, s, n, i) = ap (λ y. is_qualified (list at (cons y ts))) e
+
+pub list_head : (at b : ℕ) (h : Sexp Tok) (us ts : Sexps Tok) → h ≡ list b us → is_qualified (list at (cons h ts)) ≡ false
+list_head at b h us ts e = ap (λ y. is_qualified (list at (cons y ts))) e
+
+applied_no_qualified : (at : ℕ) (h : Sexp Tok) (ts : Sexps Tok) (q : Qualified) → ReadsQualified h q → is_qualified (list at (cons h ts)) ≡ false
+applied_no_qualified at h ts (unqualified i) p = symbol_head at h ts i p
+applied_no_qualified at h ts (qualified b i s) (w, k, u, e, r, p, q) = list_head at b h _ ts e
 
 -- patterns
 
@@ -178,26 +187,25 @@ pattern_sound (constructor_pattern at c vs) t (e, s, n, i) =
 
 -- terms
 
-constant_reads : (c : Tok) → is_constant c ≡ true → read_term (atom c) ≡ Ok (constant c)
+pub constant_reads : (c : Tok) → is_constant c ≡ true → read_term (atom c) ≡ Ok (constant c)
 unfolding read_term
 constant_reads c e = other (is_qualified (atom c)) _ _ (ap (λ b. b || false) (constant_no_symbol c e)) ∙ chosen (is_constant c) _ _ e
 
-qualified_reads : (t : Sexp Tok) (q : Qualified) → is_qualified t ≡ true → read_qualified t ≡ Ok q → read_term t ≡ Ok (qualified_term q)
+pub qualified_is : (t : Sexp Tok) → is_qualified t ≡ true → read_term t ≡ made_of qualified_term (read_qualified t)
 unfolding read_term
-qualified_reads (atom t) q e f = chosen (is_qualified (atom t)) _ _ e ∙ made qualified_term (read_qualified (atom t)) q f
-qualified_reads (list at nil) q e f = absurd (no_test e)
-qualified_reads (list at (cons h ts)) q e f = chosen (is_qualified (list at (cons h ts))) _ _ e ∙ made qualified_term (read_qualified (list at (cons h ts))) q f
+qualified_is (atom t) e = chosen (is_qualified (atom t)) _ _ e
+qualified_is (list at nil) e = absurd (no_test e)
+qualified_is (list at (cons h ts)) e = chosen (is_qualified (list at (cons h ts))) _ _ e
 
-application_is : (at : ℕ) (h : Sexp Tok) (ts : Sexps Tok) → NotEmpty ts → read_application at h ts ≡ made_of_two (application at) (read_qualified h) (read_terms ts)
+parts_read : (at : ℕ) (h : Sexp Tok) (ts : Sexps Tok) → NotEmpty ts → read_application at h ts ≡ made_of_two (application at) (read_qualified h) (read_terms ts)
 unfolding read_term
-application_is at h nil n = absurd (no_test n)
-application_is at h (cons t ts) n = refl
+parts_read at h nil n = absurd (no_test n)
+parts_read at h (cons t ts) n = refl
 
-application_reads : (at : ℕ) (h : Sexp Tok) (ts : Sexps Tok) (q : Qualified) (us : Terms) → is_qualified (list at (cons h ts)) ≡ false → is_qualified h ≡ true → NotEmpty ts
-    → read_qualified h ≡ Ok q → read_terms ts ≡ Ok us → read_term (list at (cons h ts)) ≡ Ok (application at q us)
+pub application_is : (at : ℕ) (h : Sexp Tok) (ts : Sexps Tok) → is_qualified (list at (cons h ts)) ≡ false → is_qualified h ≡ true → NotEmpty ts
+    → read_term (list at (cons h ts)) ≡ made_of_two (application at) (read_qualified h) (read_terms ts)
 unfolding read_term
-application_reads at h ts q us d e n f g =
-    other (is_qualified (list at (cons h ts))) _ _ d ∙ chosen (is_qualified h) _ _ e ∙ application_is at h ts n ∙ made_two (application at) (read_qualified h) (read_terms ts) q us f g
+application_is at h ts d e n = other (is_qualified (list at (cons h ts))) _ _ d ∙ chosen (is_qualified h) _ _ e ∙ parts_read at h ts n
 
 -- the production of a word that is no `_` and no `as`
 word_reads : (at : ℕ) (m : ℕ) (w : Tok) (ts : Sexps Tok) (x : TermWord) → is_reserved m w ≡ true → (m == UNDERSCORE) ≡ false → (m == AS) ≡ false → begins_with w ≡ x
@@ -208,25 +216,35 @@ word_reads at m w ts x r d e f =
     ∙ other (is_qualified (atom w)) _ _ (ap (λ b. b || false) (word_no_symbol w m r))
     ∙ ap (λ y. by_word y (read_let at ts) (read_binder for_all at ts) (read_binder there_exists at ts) (read_match at ts) (read_annotation at ts) (Err at)) f
 
-let_reads : (at b : ℕ) (ts : Sexps Tok) (v : Sexp Tok) (bs : Bindings) (u : Term) → NotEmpty ts → are_named ts ≡ true → read_bindings ts ≡ Ok bs → read_term v ≡ Ok u
-    → read_let at (cons (list b ts) (cons v nil)) ≡ Ok (let_in at bs u)
+pub let_is : (at : ℕ) (w : Tok) (b : ℕ) (ts : Sexps Tok) (v : Sexp Tok) → is_reserved LET w ≡ true → NotEmpty ts → are_named ts ≡ true
+    → read_term (list at (cons (atom w) (cons (list b ts) (cons v nil)))) ≡ made_of_two (let_in at) (read_bindings ts) (read_term v)
 unfolding read_term
-let_reads at b ts v bs u n d e f = chosen (not (is_empty ts) && are_named ts) _ _ (true_both _ _ n d) ∙ made_two (let_in at) (read_bindings ts) (read_term v) bs u e f
+let_is at w b ts v r n d =
+    word_reads at LET w (cons (list b ts) (cons v nil)) word.Let r refl refl (let_begins w r) ∙ chosen (not (is_empty ts) && are_named ts) _ _ (true_both _ _ n d)
 
-binder_reads : (g : ℕ → List SortedSymbol → Term → Term) (at b : ℕ) (ts : Sexps Tok) (v : Sexp Tok) (vs : List SortedSymbol) (u : Term) → NotEmpty ts → are_named ts ≡ true
-    → read_sorted ts ≡ Ok vs → read_term v ≡ Ok u → read_binder g at (cons (list b ts) (cons v nil)) ≡ Ok (g at vs u)
+pub forall_is : (at : ℕ) (w : Tok) (b : ℕ) (ts : Sexps Tok) (v : Sexp Tok) → is_reserved FORALL w ≡ true → NotEmpty ts → are_named ts ≡ true
+    → read_term (list at (cons (atom w) (cons (list b ts) (cons v nil)))) ≡ made_of_two (for_all at) (read_sorted ts) (read_term v)
 unfolding read_term
-binder_reads g at b ts v vs u n d e f = chosen (not (is_empty ts) && are_named ts) _ _ (true_both _ _ n d) ∙ made_two (g at) (read_sorted ts) (read_term v) vs u e f
+forall_is at w b ts v r n d =
+    word_reads at FORALL w (cons (list b ts) (cons v nil)) word.Forall r refl refl (forall_begins w r) ∙ chosen (not (is_empty ts) && are_named ts) _ _ (true_both _ _ n d)
 
-match_reads : (at b : ℕ) (ts : Sexps Tok) (v : Sexp Tok) (cs : Cases) (u : Term) → NotEmpty ts → are_cases ts ≡ true → read_term v ≡ Ok u → read_cases ts ≡ Ok cs
-    → read_match at (cons v (cons (list b ts) nil)) ≡ Ok (match_with at u cs)
+pub exists_is : (at : ℕ) (w : Tok) (b : ℕ) (ts : Sexps Tok) (v : Sexp Tok) → is_reserved EXISTS w ≡ true → NotEmpty ts → are_named ts ≡ true
+    → read_term (list at (cons (atom w) (cons (list b ts) (cons v nil)))) ≡ made_of_two (there_exists at) (read_sorted ts) (read_term v)
 unfolding read_term
-match_reads at b ts v cs u n d e f = chosen (not (is_empty ts) && are_cases ts) _ _ (true_both _ _ n d) ∙ made_two (match_with at) (read_term v) (read_cases ts) u cs e f
+exists_is at w b ts v r n d =
+    word_reads at EXISTS w (cons (list b ts) (cons v nil)) word.Exists r refl refl (exists_begins w r) ∙ chosen (not (is_empty ts) && are_named ts) _ _ (true_both _ _ n d)
 
-annotation_reads : (at : ℕ) (ts : Sexps Tok) (v : Sexp Tok) (ns : Notes) (u : Term) → NotEmpty ts → are_notes ts ≡ true → read_term v ≡ Ok u → read_notes ts ≡ Ok ns
-    → read_annotation at (cons v ts) ≡ Ok (annotated at u ns)
+pub match_is : (at : ℕ) (w : Tok) (b : ℕ) (ts : Sexps Tok) (v : Sexp Tok) → is_reserved MATCH w ≡ true → NotEmpty ts → are_cases ts ≡ true
+    → read_term (list at (cons (atom w) (cons v (cons (list b ts) nil)))) ≡ made_of_two (match_with at) (read_term v) (read_cases ts)
 unfolding read_term
-annotation_reads at ts v ns u n d e f = chosen (not (is_empty ts) && are_notes ts) _ _ (true_both _ _ n d) ∙ made_two (annotated at) (read_term v) (read_notes ts) u ns e f
+match_is at w b ts v r n d =
+    word_reads at MATCH w (cons v (cons (list b ts) nil)) word.Match r refl refl (match_begins w r) ∙ chosen (not (is_empty ts) && are_cases ts) _ _ (true_both _ _ n d)
+
+pub annotation_is : (at : ℕ) (w : Tok) (ts : Sexps Tok) (v : Sexp Tok) → is_reserved ANNOTATION w ≡ true → NotEmpty ts → are_notes ts ≡ true
+    → read_term (list at (cons (atom w) (cons v ts))) ≡ made_of_two (annotated at) (read_term v) (read_notes ts)
+unfolding read_term
+annotation_is at w ts v r n d =
+    word_reads at ANNOTATION w (cons v ts) word.Annotation r refl refl (annotation_begins w r) ∙ chosen (not (is_empty ts) && are_notes ts) _ _ (true_both _ _ n d)
 
 terms_read : (u : Sexp Tok) (us : Sexps Tok) (s : Term) (ss : Terms) → read_term u ≡ Ok s → read_terms us ≡ Ok ss → read_terms (cons u us) ≡ Ok (with_term s ss)
 unfolding read_term
@@ -262,20 +280,23 @@ named_read k n vs ns a s d e =
 pattern_read : (k : Tok) (b : ℕ) (ps vs : Sexps Tok) (us : Terms) (ns : Notes) → is_key PATTERN k ≡ true → NotEmpty ps → read_terms ps ≡ Ok us → read_notes vs ≡ Ok ns → are_notes vs ≡ true
     → (read_notes (cons (atom k) (cons (list b ps) vs)) ≡ Ok (with_pattern us ns)) × (are_notes (cons (atom k) (cons (list b ps) vs)) ≡ true)
 unfolding read_term
-pattern_read k b ps vs us ns a n c d e =
-    (chosen (is_key PATTERN k) _ _ a ∙ chosen (not (is_empty ps)) _ _ n ∙ made_two with_pattern (read_terms ps) (read_notes vs) us ns c d,
-    chosen (is_key PATTERN k) _ _ a ∙ true_both (not (is_empty ps)) (are_notes vs) n e)
+pattern_read k b ps vs us ns a n c d e = (
+  chosen (is_key PATTERN k) _ _ a ∙ chosen (not (is_empty ps)) _ _ n ∙ made_two with_pattern (read_terms ps) (read_notes vs) us ns c d,
+  chosen (is_key PATTERN k) _ _ a ∙ true_both (not (is_empty ps)) (are_notes vs) n e,
+)
 
 valued_read : (k : Tok) (v : Sexp Tok) (vs : Sexps Tok) (ns : Notes) → is_key NAMED k ≡ false → is_key PATTERN k ≡ false → is_other_key k ≡ true → is_value v ≡ true
     → read_notes vs ≡ Ok ns → are_notes vs ≡ true
     → (read_notes (cons (atom k) (cons v vs)) ≡ Ok (with_attribute k (Some v) ns)) × (are_notes (cons (atom k) (cons v vs)) ≡ true)
 unfolding read_term
-valued_read k (atom v) vs ns a b o q d e =
-    (other (is_key NAMED k) _ _ a ∙ chosen (is_other_key k) _ _ o ∙ chosen (is_value_token v) _ _ q ∙ made (with_attribute k (Some (atom v))) (read_notes vs) ns d,
-    other (is_key NAMED k) _ _ a ∙ true_both (is_other_key k) _ o (chosen (is_value_token v) _ _ q ∙ e))
-valued_read k (list at us) vs ns a b o q d e =
-    (other (is_key PATTERN k) _ _ b ∙ chosen (is_other_key k) _ _ o ∙ made (with_attribute k (Some (list at us))) (read_notes vs) ns d,
-    other (is_key PATTERN k) _ _ b ∙ true_both (is_other_key k) _ o e)
+valued_read k (atom v) vs ns a b o q d e = (
+  other (is_key NAMED k) _ _ a ∙ chosen (is_other_key k) _ _ o ∙ chosen (is_value_token v) _ _ q ∙ made (with_attribute k (Some (atom v))) (read_notes vs) ns d,
+  other (is_key NAMED k) _ _ a ∙ true_both (is_other_key k) _ o (chosen (is_value_token v) _ _ q ∙ e),
+)
+valued_read k (list at us) vs ns a b o q d e = (
+  other (is_key PATTERN k) _ _ b ∙ chosen (is_other_key k) _ _ o ∙ made (with_attribute k (Some (list at us))) (read_notes vs) ns d,
+  other (is_key PATTERN k) _ _ b ∙ true_both (is_other_key k) _ o e,
+)
 
 alone_read : (k : Tok) → is_other_key k ≡ true → (read_notes (cons (atom k) nil) ≡ Ok (with_attribute k None no_notes)) × (are_notes (cons (atom k) nil) ≡ true)
 unfolding read_term
@@ -285,9 +306,10 @@ keyword_read : (k l : Tok) (vs : Sexps Tok) (ns : Notes) → is_key NAMED k ≡ 
     → read_notes (cons (atom l) vs) ≡ Ok ns → are_notes (cons (atom l) vs) ≡ true
     → (read_notes (cons (atom k) (cons (atom l) vs)) ≡ Ok (with_attribute k None ns)) × (are_notes (cons (atom k) (cons (atom l) vs)) ≡ true)
 unfolding read_term
-keyword_read k l vs ns a o q d e =
-    (other (is_key NAMED k) _ _ a ∙ chosen (is_other_key k) _ _ o ∙ other (is_value_token l) _ _ q ∙ made (with_attribute k None) (read_notes (cons (atom l) vs)) ns d,
-    other (is_key NAMED k) _ _ a ∙ true_both (is_other_key k) _ o (other (is_value_token l) _ _ q ∙ e))
+keyword_read k l vs ns a o q d e = (
+  other (is_key NAMED k) _ _ a ∙ chosen (is_other_key k) _ _ o ∙ other (is_value_token l) _ _ q ∙ made (with_attribute k None) (read_notes (cons (atom l) vs)) ns d,
+  other (is_key NAMED k) _ _ a ∙ true_both (is_other_key k) _ o (other (is_value_token l) _ _ q ∙ e),
+)
 
 -- attributes begin with a keyword
 Starts : Sexps Tok → Type 0
@@ -315,25 +337,25 @@ alone_or_more k vs ns a o (inr (l, us, e, w)) d g =
 mutual
   pub term_sound : (u : Term) (t : Sexp Tok) → ReadsTerm t u → read_term t ≡ Ok u
   term_sound (constant c) t (e, k) = ap read_term e ∙ constant_reads c k
-  term_sound (qualified_term q) t p = let h = qualified_sound q t p in qualified_reads t q h.1 h.0
+  term_sound (qualified_term q) t p = let h = qualified_sound q t p in qualified_is t h.1 ∙ made qualified_term (read_qualified t) q h.0
   term_sound (application at q us) t (h, ts, e, p, n, r) =
       let k = qualified_sound q h p in
-      ap read_term e ∙ application_reads at h ts q us (applied_no_qualified at h ts q p) k.1 n k.0 (terms_sound us ts r)
+      ap read_term e ∙ application_is at h ts (applied_no_qualified at h ts q p) k.1 n ∙ made_two (application at) (read_qualified h) (read_terms ts) q us k.0 (terms_sound us ts r)
   term_sound (let_in at bs u) t (w, b, ts, v, e, r, n, p, q) =
       let h = bindings_sound bs ts p in
-      ap read_term e ∙ word_reads at LET w (cons (list b ts) (cons v nil)) word.Let r refl refl (let_begins w r) ∙ let_reads at b ts v bs u n h.1 h.0 (term_sound u v q)
+      ap read_term e ∙ let_is at w b ts v r n h.1 ∙ made_two (let_in at) (read_bindings ts) (read_term v) bs u h.0 (term_sound u v q)
   term_sound (for_all at vs u) t (w, b, ts, v, e, r, n, p, q) =
       let h = variables_sound vs ts p in
-      ap read_term e ∙ word_reads at FORALL w (cons (list b ts) (cons v nil)) word.Forall r refl refl (forall_begins w r) ∙ binder_reads for_all at b ts v vs u n h.1 h.0 (term_sound u v q)
+      ap read_term e ∙ forall_is at w b ts v r n h.1 ∙ made_two (for_all at) (read_sorted ts) (read_term v) vs u h.0 (term_sound u v q)
   term_sound (there_exists at vs u) t (w, b, ts, v, e, r, n, p, q) =
       let h = variables_sound vs ts p in
-      ap read_term e ∙ word_reads at EXISTS w (cons (list b ts) (cons v nil)) word.Exists r refl refl (exists_begins w r) ∙ binder_reads there_exists at b ts v vs u n h.1 h.0 (term_sound u v q)
+      ap read_term e ∙ exists_is at w b ts v r n h.1 ∙ made_two (there_exists at) (read_sorted ts) (read_term v) vs u h.0 (term_sound u v q)
   term_sound (match_with at u cs) t (w, b, ts, v, e, r, n, p, q) =
       let h = cases_sound cs ts q in
-      ap read_term e ∙ word_reads at MATCH w (cons v (cons (list b ts) nil)) word.Match r refl refl (match_begins w r) ∙ match_reads at b ts v cs u n h.1 (term_sound u v p) h.0
+      ap read_term e ∙ match_is at w b ts v r n h.1 ∙ made_two (match_with at) (read_term v) (read_cases ts) u cs (term_sound u v p) h.0
   term_sound (annotated at u ns) t (w, ts, v, e, r, n, p, q) =
       let h = notes_sound ns ts q in
-      ap read_term e ∙ word_reads at ANNOTATION w (cons v ts) word.Annotation r refl refl (annotation_begins w r) ∙ annotation_reads at ts v ns u n h.1 (term_sound u v p) h.0
+      ap read_term e ∙ annotation_is at w ts v r n h.1 ∙ made_two (annotated at) (read_term v) (read_notes ts) u ns (term_sound u v p) h.0
 
   pub terms_sound : (us : Terms) (ts : Sexps Tok) → ReadsTerms ts us → read_terms ts ≡ Ok us
   terms_sound no_terms ts e = ap read_terms e ∙ nothing_read.0

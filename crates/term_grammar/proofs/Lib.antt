@@ -12,3 +12,6 @@ pub mod TokenKinds
 pub mod PartsFound
 pub mod GrammarComplete
 pub mod GrammarSound
+pub mod Shapes
+pub mod FirstFaults
+pub mod GrammarLaws

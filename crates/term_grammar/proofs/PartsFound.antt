@@ -1,5 +1,5 @@
 -- What is known of trees whose parts were found.
-use Rattle.std.proofs.Common.{◌≡◌, ℕ, Bool, true, false, not, if◌then◌else◌, Option, Some, None, IfSome, is_some, option_and_then, refl, ap, sym, ◌∙◌}
+use Rattle.std.proofs.Common.{◌≡◌, ℕ, Bool, true, false, not, if◌then◌else◌, Option, Some, None, IfSome, is_some, option_and_then, refl, ap, sym, subst, ◌∙◌}
 use Rattle.lex_core.specs.declared.token.Tok.{Tok}
 use Rattle.sexp_core.specs.Sexp.{Sexp, atom, list, Sexps, nil, cons}
 use Rattle.sexp_core.specs.Parts.{whole}
@@ -7,7 +7,7 @@ use Rattle.term_grammar.specs.declared.words.TheConstants.{UNDERSCORE, AS}
 use Rattle.term_grammar.specs.Words.{is_symbol, is_index, is_reserved}
 use Rattle.term_grammar.specs.FirstParts.{atoms, any_first, token_first, symbol_first, is_empty, guard}
 use Rattle.term_grammar.specs.Forms.{are_indices, indexed_parts, is_identifier}
-use Rattle.term_grammar.specs.TermForms.{as_parts, are_symbols, constructor_parts, is_pattern}
+use Rattle.term_grammar.specs.TermForms.{as_parts, case_parts, are_symbols, constructor_parts, is_pattern}
 use Rattle.term_grammar.specs.Reads.{tokens_of, indexed_by, identifier_of, pattern_by, pattern_of}
 use Rattle.term_grammar.specs.Grammar.{NotEmpty, AreIndices, AreSymbols, ReadsIdentifier, ReadsPattern}
 use Rattle.term_grammar.proofs.TokenKinds.{no_test, both_true}
@@ -17,6 +17,10 @@ use Rattle.term_grammar.proofs.FormsRead.{whole-part_of}
 pub then_found : {A B : Type 0} (o : Option A) (f : A → Option B) (P : A → Type 0) (Q : B → Type 0) → IfSome o P → ((a : A) → P a → IfSome (f a) Q) → IfSome (option_and_then f o) Q
 then_found (Some a) f P Q h k = k a h
 then_found None f P Q h k = tt
+
+-- what holds of a part that is found holds of this one
+pub at_part : {A : Type 0} (o : Option A) (a : A) (P : A → Type 0) → o ≡ Some a → IfSome o P → P a
+at_part {A = A} o a P e h = let Q : Option A → Type 0 = λ x. IfSome x P in subst Q e h
 
 pub guard_found : (b : Bool) → IfSome (guard b) (λ _. b ≡ true)
 guard_found true = refl
@@ -103,6 +107,14 @@ constructor_read at ts (Some p) e (d, s, n, i) =
 pub pattern_found : (t : Sexp Tok) → is_pattern t ≡ true → ReadsPattern t (pattern_of t)
 pattern_found (atom t) e = (refl, e)
 pattern_found (list at ts) e = constructor_read at ts (constructor_parts ts) e (constructor_found ts)
+
+-- pattern term
+pub case_found : (ts : Sexps Tok) → IfSome (case_parts ts) (λ p. is_pattern (whole p.0) ≡ true)
+case_found ts =
+    then_found (any_first ts) _ (λ p. ts ≡ cons (whole p.0) p.1) _ (any_found ts) (λ p d.
+    then_found (guard (is_pattern (whole p.0))) _ (λ _. is_pattern (whole p.0) ≡ true) _ (guard_found (is_pattern (whole p.0))) (λ _ e.
+    then_found (any_first p.1) _ (λ t. p.1 ≡ cons (whole t.0) t.1) _ (any_found p.1) (λ t f.
+    then_found (guard (is_empty t.1)) _ (λ _. is_empty t.1 ≡ true) _ (guard_found (is_empty t.1)) (λ _ g. e))))
 
 -- identifier sort, after the word `as`
 pub as_found : (ts : Sexps Tok) → IfSome (as_parts ts)

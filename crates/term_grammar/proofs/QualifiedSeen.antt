@@ -1,23 +1,20 @@
 -- What is known of a tree that reads as a qualified identifier.
-use Rattle.std.proofs.Common.{◌≡◌, ℕ, Bool, true, false, if◌then◌else◌, Option, Some, None, option_and_then, Result, Ok, Err, IsOk, IsTrue, is_ok, refl, ap, sym, ◌∙◌}
+use Rattle.std.proofs.Common.{◌≡◌, ℕ, Bool, true, false, if◌then◌else◌, Some, None, Result, Ok, Err, IsOk, IsTrue, is_ok, refl, ap, sym, ◌∙◌}
 use Rattle.std.specs.Result.{result_unwrap_or}
 use Rattle.lex_core.specs.declared.token.Tok.{Tok}
-use Rattle.sexp_core.specs.Sexp.{Sexp, atom, list, Sexps, nil, cons}
+use Rattle.sexp_core.specs.Sexp.{Sexp, atom, list, Sexps}
 use Rattle.sexp_core.specs.Parts.{whole}
 use Rattle.sexp_core.specs.declared.parts.Part.{Part}
 use Rattle.sexp_core.specs.declared.parts.Part.TheVariants as part
-use Rattle.term_grammar.specs.declared.words.TheConstants.{AS}
-use Rattle.term_grammar.specs.Words.{is_symbol, is_reserved}
-use Rattle.term_grammar.specs.FirstParts.{any_first, is_empty, guard}
+use Rattle.term_grammar.specs.Words.{is_symbol}
 use Rattle.term_grammar.specs.Syntax.{symbol, named_sort, Qualified, unqualified, qualified}
 use Rattle.term_grammar.specs.Forms.{is_identifier}
 use Rattle.term_grammar.specs.TermForms.{as_parts}
 use Rattle.term_grammar.specs.Reads.{made_of, no_token, identifier_of, read_sort, qualified_by, read_qualified}
 use Rattle.term_grammar.specs.Readings.{sort_of, qualified_of}
 use Rattle.term_grammar.proofs.SortsSeen.{made_of_ok}
-
-no_test : false ≡ true → ⊥
-no_test e = cc
+use Rattle.term_grammar.proofs.TokenKinds.{no_test}
+use Rattle.term_grammar.proofs.PartsFound.{at_part, as_found}
 
 abbrev qualified_or : Result Qualified ℕ → Qualified
 qualified_or r = result_unwrap_or r (unqualified (symbol no_token))
@@ -36,30 +33,6 @@ unfolding read_qualified
 atom_unseen (part.Atom v) w d e h = no_atom (is_symbol v) v e h
 atom_unseen (part.List at ts) w d e h = absurd (cc)
 
--- the identifier after `as` is one
-abbrev identifier_fits : Option (Part × Part) → Bool
-identifier_fits None = true
-identifier_fits (Some p) = is_identifier (whole p.0)
-
-after_fits : (i : Part) (ts : Sexps Tok) (q : Bool) → is_identifier (whole i) ≡ q
-    → identifier_fits (option_and_then (λ _. option_and_then (λ (s : Part × Sexps Tok). option_and_then (λ _. Some (i, s.0)) (guard (is_empty s.1))) (any_first ts)) (guard q)) ≡ true
-after_fits i nil true e = refl
-after_fits i (cons s nil) true e = e
-after_fits i (cons s (cons u us)) true e = refl
-after_fits i ts false e = refl
-
-word_fits : (ts : Sexps Tok) (b : Bool)
-    → identifier_fits (option_and_then (λ _. option_and_then (λ (i : Part × Sexps Tok). option_and_then (λ _. option_and_then (λ (s : Part × Sexps Tok). option_and_then (λ _. Some (i.0, s.0)) (guard (is_empty s.1))) (any_first i.1)) (guard (is_identifier (whole i.0)))) (any_first ts)) (guard b)) ≡ true
-word_fits ts false = refl
-word_fits nil true = refl
-word_fits (cons (atom w) ts) true = after_fits (part.Atom w) ts (is_identifier (atom w)) refl
-word_fits (cons (list at us) ts) true = after_fits (part.List at us) ts (is_identifier (list at us)) refl
-
-as_parts-identifier : (ts : Sexps Tok) → identifier_fits (as_parts ts) ≡ true
-as_parts-identifier nil = refl
-as_parts-identifier (cons (list at us) ts) = refl
-as_parts-identifier (cons (atom w) ts) = word_fits ts (is_reserved AS w)
-
 list_reads : (at : ℕ) (ts : Sexps Tok) → is_identifier (list at ts) ≡ false → read_qualified (list at ts) ≡ qualified_by at (as_parts ts)
 unfolding read_qualified
 list_reads at ts e = rw e refl
@@ -72,7 +45,7 @@ list_seen t at ts i s d e f h =
     ap (λ (x : Part). read_qualified (whole x)) d ∙ list_reads at ts (sym (ap (λ (x : Part). is_identifier (whole x)) d) ∙ e) ∙ ap (qualified_by at) f in
     let ok : IsOk (made_of (qualified at (identifier_of (whole i))) (read_sort (whole s))) = sym (ap (λ (x : Result Qualified ℕ). is_ok x) r) ∙ h in
     let m = made_of_ok (qualified at (identifier_of (whole i))) (read_sort (whole s)) (named_sort (symbol no_token)) (unqualified (symbol no_token)) ok in
-    (sym (ap identifier_fits f) ∙ as_parts-identifier ts, (m.0, ap qualified_or r ∙ m.1))
+    ((at_part (as_parts ts) (i, s) _ f (as_found ts)).3, (m.0, ap qualified_or r ∙ m.1))
 
 pub list_unseen : (t : Part) (at : ℕ) (ts : Sexps Tok) → t ≡ part.List at ts → is_identifier (whole t) ≡ false → as_parts ts ≡ None → IsOk (read_qualified (whole t)) → ⊥
 list_unseen t at ts d e f h =

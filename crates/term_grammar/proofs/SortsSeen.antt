@@ -14,9 +14,7 @@ use Rattle.term_grammar.specs.Reads.{made_of, made_of_two, no_token, byte_of, id
 use Rattle.term_grammar.specs.FormReading.{sort_by}
 use Rattle.term_grammar.specs.Readings.{sort_of, sorts_of}
 use Rattle.term_grammar.proofs.FormsRead.{read_sort-form}
-
-no_test : false ≡ true → ⊥
-no_test e = cc
+use Rattle.term_grammar.proofs.TokenKinds.{no_test}
 
 pub token_first_is : (ts : Sexps Tok) (p : Tok × Sexps Tok) → token_first ts ≡ Some p → ts ≡ cons (atom p.0) p.1
 token_first_is nil p e = absurd (cc)

@@ -1,17 +1,15 @@
 -- What is known of a tree that reads as a term.
-use Rattle.std.proofs.Common.{◌≡◌, ℕ, Bool, true, false, List, [], Option, Some, None, option_and_then, Result, Ok, Err, IsOk, IsTrue, is_ok, refl, ap, sym, subst, ◌∙◌}
+use Rattle.std.proofs.Common.{◌≡◌, ℕ, List, [], Option, Some, None, Result, Ok, Err, IsOk, IsTrue, is_ok, refl, ap, sym, subst, ◌∙◌}
 use Rattle.std.specs.Result.{result_unwrap_or}
 use Rattle.lex_core.specs.declared.token.Tok.{Tok}
 use Rattle.sexp_core.specs.Sexp.{Sexp, atom, list, Sexps, nil, cons}
 use Rattle.sexp_core.specs.Parts.{whole}
 use Rattle.sexp_core.specs.declared.parts.Part.{Part}
-use Rattle.sexp_core.specs.declared.parts.Part.TheVariants as part
 use Rattle.term_grammar.specs.declared.term_form.TermForm.{TermForm}
 use Rattle.term_grammar.specs.declared.term_form.TermForm.TheVariants as form
 use Rattle.term_grammar.specs.Syntax.{symbol, named_sort, unqualified, SortedSymbol, Term, constant, qualified_term, application, let_in, for_all, there_exists, match_with, annotated, no_terms, with_term, Bindings, no_bindings, with_binding, Cases, no_cases, with_case, Notes, no_notes, with_note}
 use Rattle.term_grammar.specs.declared.term_form.NoteForm.{NoteForm}
 use Rattle.term_grammar.specs.declared.term_form.NoteForm.TheVariants as note
-use Rattle.term_grammar.specs.FirstParts.{any_first, is_empty, guard}
 use Rattle.term_grammar.specs.TermForms.{named_parts, is_pattern, case_parts, note_parts, term_form}
 use Rattle.term_grammar.specs.Reads.{byte_of, made_of_two, no_token, pattern_of, with_sorted, read_sort, read_qualified, read_sorted, read_term, read_terms, read_bindings, read_cases, read_notes, with_named, with_pattern, with_attribute}
 use Rattle.term_grammar.specs.FormReading.{term_by}
@@ -20,9 +18,8 @@ use Rattle.term_grammar.specs.Readings.{sort_of, term_of, terms_of, qualified_of
 use Rattle.term_grammar.proofs.FormsRead.{read_term-form}
 use Rattle.term_grammar.proofs.ListsRead.{bindings_by, read_bindings-first, sorted_by, read_sorted-first, cases_by, read_cases-first, notes_by, read_notes-first}
 use Rattle.term_grammar.proofs.SortsSeen.{made_of_ok, made_of_two_ok}
-
-no_test : false ≡ true → ⊥
-no_test e = cc
+use Rattle.term_grammar.proofs.TokenKinds.{no_test}
+use Rattle.term_grammar.proofs.PartsFound.{at_part, case_found}
 
 -- what the form of a tree that reads as a term tells of the parts
 abbrev pub Seen : Sexp Tok → Term → TermForm → Type 0
@@ -134,25 +131,8 @@ case_begin ts b ps us x p h e f =
     let m = made_of_two_ok (with_case b (pattern_of (whole x))) (read_term (whole p)) (read_cases us) (constant no_token) no_cases no_cases ok in
     (m.0, (m.1.0, ap cases_or r ∙ m.1.1))
 
--- the pattern of a case fits
-abbrev pub pattern_fits : Option (Part × Part) → Bool
-pattern_fits None = true
-pattern_fits (Some p) = is_pattern (whole p.0)
-
-fits_after : (p : Part) (r : Sexps Tok) (q : Bool) → is_pattern (whole p) ≡ q
-    → pattern_fits (option_and_then (λ _. option_and_then (λ (t : Part × Sexps Tok). option_and_then (λ _. Some (p, t.0)) (guard (is_empty t.1))) (any_first r)) (guard q)) ≡ true
-fits_after p nil true e = refl
-fits_after p (cons t nil) true e = e
-fits_after p (cons t (cons u us)) true e = refl
-fits_after p r false e = refl
-
-case_parts-pattern : (us : Sexps Tok) → pattern_fits (case_parts us) ≡ true
-case_parts-pattern nil = refl
-case_parts-pattern (cons (atom w) r) = fits_after (part.Atom w) r (is_pattern (atom w)) refl
-case_parts-pattern (cons (list c vs) r) = fits_after (part.List c vs) r (is_pattern (list c vs)) refl
-
 pub pattern_seen : (us : Sexps Tok) (x p : Part) → case_parts us ≡ Some (x, p) → IsTrue (is_pattern (whole x))
-pattern_seen us x p e = sym (ap pattern_fits e) ∙ case_parts-pattern us
+pattern_seen us x p e = at_part (case_parts us) (x, p) _ e (case_found us)
 
 abbrev notes_or : Result Notes ℕ → Notes
 notes_or r = result_unwrap_or r no_notes

@@ -7,6 +7,8 @@ pub mod TermForms
 pub mod Reads
 pub mod FormReading
 pub mod Grammar
+pub mod Faults
+pub mod GrammarLaws
 pub mod Codes
 pub mod Readings
 pub mod WordNumbers

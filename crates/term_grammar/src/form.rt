@@ -10,7 +10,7 @@ use sexp_core::{Part, Trees};
 
 /// A sort, by its production.
 #[derive(Drop)]
-pub enum SortForm<'t> {
+pub(crate) enum SortForm<'t> {
     Identifier,
     Applied {
         identifier: Part<'t>,
@@ -19,7 +19,7 @@ pub enum SortForm<'t> {
 }
 
 /// Whether each of some trees is an index.
-pub fn are_indices(trees: &Trees) -> bool
+pub(crate) fn are_indices(trees: &Trees) -> bool
     ensures { result ≡ are_all_indices trees.now }
 {
     let mut next = trees.split();
@@ -38,7 +38,7 @@ pub fn are_indices(trees: &Trees) -> bool
 }
 
 /// The parts of `( _ symbol index+ )`.
-pub fn indexed_parts<'t>(parts: &Trees<'t>) -> Option<(Tok, Trees<'t>)>
+pub(crate) fn indexed_parts<'t>(parts: &Trees<'t>) -> Option<(Tok, Trees<'t>)>
     ensures { result ≡ parts_indexed parts.now }
 {
     let (word, rest) = token_first(parts)?;
@@ -50,7 +50,7 @@ pub fn indexed_parts<'t>(parts: &Trees<'t>) -> Option<(Tok, Trees<'t>)>
 }
 
 /// Whether the tree is `symbol` or `( _ symbol index+ )`.
-pub fn is_identifier(tree: &Part) -> bool
+pub(crate) fn is_identifier(tree: &Part) -> bool
     ensures { result ≡ is_an_identifier (whole tree.now) }
 {
     match tree {
@@ -60,7 +60,7 @@ pub fn is_identifier(tree: &Part) -> bool
 }
 
 /// The parts of `( identifier sort+ )`.
-pub fn applied_parts<'t>(parts: &Trees<'t>) -> Option<(Part<'t>, Trees<'t>)>
+pub(crate) fn applied_parts<'t>(parts: &Trees<'t>) -> Option<(Part<'t>, Trees<'t>)>
     ensures { result ≡ parts_applied parts.now }
 {
     let (identifier, args) = any_first(parts)?;
@@ -70,7 +70,7 @@ pub fn applied_parts<'t>(parts: &Trees<'t>) -> Option<(Part<'t>, Trees<'t>)>
 }
 
 /// The form of a sort, or the first byte of a tree that has none.
-pub fn sort_form<'t>(tree: &Part<'t>) -> Result<SortForm<'t>, u32>
+pub(crate) fn sort_form<'t>(tree: &Part<'t>) -> Result<SortForm<'t>, u32>
     ensures { result ≡ form_of_sort (whole tree.now) }
 {
     if is_identifier(tree) {

@@ -13,7 +13,7 @@ use sexp_core::{Part, Trees};
 /// Judges a sort: the first byte of the first tree of no shape, in pre-order.
 #[cycle(sorts)]
 #[tactic(auto, using(crate::proofs::FormSizes::sort_rules))]
-pub fn judge_sort(tree: &Part) -> Result<(), u32>
+pub(crate) fn judge_sort(tree: &Part) -> Result<(), u32>
     ensures { result ≡ judged (read_sort (whole tree.now)) }
 {
     match sort_form(tree)? {
@@ -25,7 +25,7 @@ pub fn judge_sort(tree: &Part) -> Result<(), u32>
 /// Judges some sorts, left to right.
 #[cycle(sorts)]
 #[tactic(auto, using(crate::proofs::JudgedLists::sorts_rules))]
-pub fn judge_sorts(trees: &Trees) -> Result<(), u32>
+pub(crate) fn judge_sorts(trees: &Trees) -> Result<(), u32>
     ensures { result ≡ judged (read_sorts trees.now) }
 {
     let mut next = trees.split();
@@ -38,7 +38,7 @@ pub fn judge_sorts(trees: &Trees) -> Result<(), u32>
 
 /// Judges the sorts of some variables or selectors, left to right.
 #[tactic(auto, using(crate::proofs::JudgedLists::sorted_rules))]
-pub fn judge_sorted(trees: &Trees) -> Result<(), u32>
+pub(crate) fn judge_sorted(trees: &Trees) -> Result<(), u32>
     ensures { result ≡ judged (read_sorted trees.now) }
 {
     let mut next = trees.split();
@@ -57,7 +57,7 @@ pub fn judge_sorted(trees: &Trees) -> Result<(), u32>
 
 /// Judges the sort of a qualified identifier, where there is one.
 #[tactic(auto, unfolding(crate::specs::Reads::read_qualified))]
-pub fn judge_qualified(tree: &Part) -> Result<(), u32>
+pub(crate) fn judge_qualified(tree: &Part) -> Result<(), u32>
     ensures { result ≡ judged (read_qualified (whole tree.now)) }
 {
     if is_identifier(tree) {
@@ -75,7 +75,7 @@ pub fn judge_qualified(tree: &Part) -> Result<(), u32>
 /// Judges a term: the first byte of the first tree of no shape, in pre-order.
 #[cycle(terms)]
 #[tactic(auto, using(crate::proofs::FormSizes::term_rules))]
-pub fn judge_term(tree: &Part) -> Result<(), u32>
+pub(crate) fn judge_term(tree: &Part) -> Result<(), u32>
     ensures { result ≡ judged (read_term (whole tree.now)) }
 {
     match term_form(tree)? {
@@ -111,7 +111,7 @@ pub fn judge_term(tree: &Part) -> Result<(), u32>
 /// Judges some terms, left to right.
 #[cycle(terms)]
 #[tactic(auto, using(crate::proofs::JudgedLists::terms_rules))]
-pub fn judge_terms(trees: &Trees) -> Result<(), u32>
+pub(crate) fn judge_terms(trees: &Trees) -> Result<(), u32>
     ensures { result ≡ judged (read_terms trees.now) }
 {
     let mut next = trees.split();

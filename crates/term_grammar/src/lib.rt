@@ -20,10 +20,8 @@ mod words;
 
 pub use attribute::{RawAttribute, RawAttributeKind, RawValue, RawValueKind};
 pub use binder::{RawBinding, RawBindings, RawVariable, RawVariables, read_variables};
-pub use form::{SortForm, applied_parts, are_indices, indexed_parts, is_identifier, sort_form};
 pub use identifier::{RawIdentifier, RawIdentifierKind, RawIndices};
-pub use judge::{judge_sort, judge_sorted, judge_sorts, judge_term, judge_terms};
-pub use laws::word_laws;
+pub use laws::{grammar_laws, word_laws};
 pub use note::{RawNote, RawNoteKind, RawNotes};
 pub use parts::{any_first, guard, is_empty, list_first, symbol_first, token_first};
 pub use pattern::{RawCase, RawCases, RawPattern, RawPatternKind, RawSymbols};
@@ -33,9 +31,8 @@ pub use sort::{RawSort, RawSortKind, RawSorts, read_sort, read_sorts};
 pub use term::{RawTerm, RawTermKind, RawTerms, read_term, read_terms};
 pub use term_form::{are_named, are_symbols, value_first};
 pub use words::{
-    ANNOTATION, AS, EXISTS, FALSE, FORALL, GLOBAL_DECLARATIONS, LET, MATCH, NAMED, NOT, PAR,
-    PATTERN, TRUE, UNDERSCORE, is_constant, is_index, is_key, is_keyword, is_numeral, is_reserved,
-    is_string, is_symbol, is_value_token,
+    FALSE, GLOBAL_DECLARATIONS, NOT, PAR, TRUE, is_key, is_keyword, is_numeral, is_reserved,
+    is_string, is_symbol,
 };
 
 #[cfg(test)]

@@ -1,6 +1,8 @@
 //! Patterns and the cases of a `match`, as views of their trees.
-ghost use Rattle.std.specs.Prelude.{◌≡◌, length, slice_get};
+ghost use Rattle.std.specs.Prelude.{◌≡◌, IsTrue, length, slice_get};
 ghost use Rattle.term_grammar.specs.Syntax.{pattern_at};
+ghost use Rattle.term_grammar.specs.TermForms.{are_symbols};
+ghost use Rattle.term_grammar.specs.Reads.{tokens_of};
 ghost use Rattle.term_grammar.specs.IdentifierViews.{SplitsTokens};
 ghost use Rattle.term_grammar.specs.TermViews.{each_case, pattern_kind, SplitsCases};
 ghost use Rattle.term_grammar.specs.ListViews.{each_token};
@@ -160,6 +162,14 @@ impl<'t> RawPattern<'t> {
 }
 
 impl<'t> RawSymbols<'t> {
+    /// The symbols that some trees are.
+    pub fn of(trees: Trees<'t>) -> RawSymbols<'t>
+        requires { IsTrue (are_symbols trees) }
+        ensures { result ≡ tokens_of trees.entry }
+    {
+        RawSymbols { trees }
+    }
+
     /// How many symbols there are. It walks over them.
     pub fn len(&self) -> usize
         ensures { result ≡ length (each_token self.now) }

@@ -15,7 +15,7 @@ use sexp_core::{Part, Trees};
 
 /// A term, by its production.
 #[derive(Drop)]
-pub enum TermForm<'t> {
+pub(crate) enum TermForm<'t> {
     Constant(Tok),
     Qualified,
     Application {
@@ -46,7 +46,7 @@ pub enum TermForm<'t> {
 
 /// An attribute of a term, by its production.
 #[derive(Drop)]
-pub enum NoteForm<'t> {
+pub(crate) enum NoteForm<'t> {
     Named {
         name: Tok,
     },
@@ -60,7 +60,7 @@ pub enum NoteForm<'t> {
 }
 
 /// The parts of `( as identifier sort )`.
-pub fn as_parts<'t>(parts: &Trees<'t>) -> Option<(Part<'t>, Part<'t>)>
+pub(crate) fn as_parts<'t>(parts: &Trees<'t>) -> Option<(Part<'t>, Part<'t>)>
     ensures { result ≡ definition.as_parts parts.now }
 {
     let (word, rest) = token_first(parts)?;
@@ -82,7 +82,7 @@ fn is_as(tree: &Part) -> bool
 }
 
 /// Whether the tree is `identifier` or `( as identifier sort )`, where any tree is a sort.
-pub fn is_qualified(tree: &Part) -> bool
+pub(crate) fn is_qualified(tree: &Part) -> bool
     ensures { result ≡ definition.is_qualified (whole tree.now) }
 {
     is_identifier(tree) || is_as(tree)
@@ -108,7 +108,7 @@ pub fn are_symbols(trees: &Trees) -> bool
 }
 
 /// The parts of `( symbol symbol+ )`.
-pub fn constructor_parts<'t>(parts: &Trees<'t>) -> Option<(Tok, Trees<'t>)>
+pub(crate) fn constructor_parts<'t>(parts: &Trees<'t>) -> Option<(Tok, Trees<'t>)>
     ensures { result ≡ definition.constructor_parts parts.now }
 {
     let (name, variables) = symbol_first(parts)?;
@@ -118,7 +118,7 @@ pub fn constructor_parts<'t>(parts: &Trees<'t>) -> Option<(Tok, Trees<'t>)>
 }
 
 /// Whether the tree is `symbol` or `( symbol symbol+ )`.
-pub fn is_pattern(tree: &Part) -> bool
+pub(crate) fn is_pattern(tree: &Part) -> bool
     ensures { result ≡ definition.is_pattern (whole tree.now) }
 {
     match tree {
@@ -128,7 +128,7 @@ pub fn is_pattern(tree: &Part) -> bool
 }
 
 /// The parts of a binding, a variable or a selector: a symbol and one tree.
-pub fn named_parts<'t>(parts: &Trees<'t>) -> Option<(Tok, Part<'t>)>
+pub(crate) fn named_parts<'t>(parts: &Trees<'t>) -> Option<(Tok, Part<'t>)>
     ensures { result ≡ definition.named_parts parts.now }
 {
     let (name, rest) = symbol_first(parts)?;
@@ -157,7 +157,7 @@ pub fn are_named(trees: &Trees) -> bool
 }
 
 /// The parts of `( pattern term )`.
-pub fn case_parts<'t>(parts: &Trees<'t>) -> Option<(Part<'t>, Part<'t>)>
+pub(crate) fn case_parts<'t>(parts: &Trees<'t>) -> Option<(Part<'t>, Part<'t>)>
     ensures { result ≡ definition.case_parts parts.now }
 {
     let (pattern, rest) = any_first(parts)?;
@@ -210,7 +210,7 @@ pub fn value_first<'t>(trees: Trees<'t>) -> (Option<RawValue<'t>>, Trees<'t>)
 }
 
 /// The first attribute of a term, and the other trees.
-pub fn note_parts<'t>(trees: &Trees<'t>) -> Option<(NoteForm<'t>, Trees<'t>)>
+pub(crate) fn note_parts<'t>(trees: &Trees<'t>) -> Option<(NoteForm<'t>, Trees<'t>)>
     ensures { result ≡ definition.note_parts trees.now }
 {
     let (keyword, rest) = token_first(trees)?;
@@ -327,7 +327,7 @@ fn list_form<'t>(parts: &Trees<'t>) -> Option<TermForm<'t>>
 }
 
 /// The form of a term, or the first byte of a tree that has none.
-pub fn term_form<'t>(tree: &Part<'t>) -> Result<TermForm<'t>, u32>
+pub(crate) fn term_form<'t>(tree: &Part<'t>) -> Result<TermForm<'t>, u32>
     ensures { result ≡ definition.term_form (whole tree.now) }
 {
     if is_qualified(tree) {

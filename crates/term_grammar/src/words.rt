@@ -5,25 +5,25 @@ ghost use Rattle.term_grammar.specs.Words.{is_symbol as is_a_symbol, is_numeral 
 use lex_core::{Tok, TokKind};
 
 /// The number of the reserved word `!`.
-pub const ANNOTATION: u32 = 1;
+pub(crate) const ANNOTATION: u32 = 1;
 /// The number of the reserved word `_`.
-pub const UNDERSCORE: u32 = 7;
+pub(crate) const UNDERSCORE: u32 = 7;
 /// The number of the reserved word `as`.
-pub const AS: u32 = 8;
+pub(crate) const AS: u32 = 8;
 /// The number of the reserved word `exists`.
-pub const EXISTS: u32 = 22;
+pub(crate) const EXISTS: u32 = 22;
 /// The number of the reserved word `forall`.
-pub const FORALL: u32 = 24;
+pub(crate) const FORALL: u32 = 24;
 /// The number of the reserved word `let`.
-pub const LET: u32 = 34;
+pub(crate) const LET: u32 = 34;
 /// The number of the reserved word `match`.
-pub const MATCH: u32 = 35;
+pub(crate) const MATCH: u32 = 35;
 /// The number of the reserved word `par`.
 pub const PAR: u32 = 36;
 /// The number of the keyword `:named`.
-pub const NAMED: u32 = 44;
+pub(crate) const NAMED: u32 = 44;
 /// The number of the keyword `:pattern`.
-pub const PATTERN: u32 = 45;
+pub(crate) const PATTERN: u32 = 45;
 /// The number of the keyword `:global-declarations`.
 pub const GLOBAL_DECLARATIONS: u32 = 46;
 /// The number of the symbol `true`.
@@ -35,7 +35,7 @@ pub const NOT: u32 = 49;
 
 /// The reserved word that begins a term (SMT-LIB 2.6, section 3.6).
 #[derive(Clone, Copy, Debug, PartialEq, Eq)]
-pub enum TermWord {
+pub(crate) enum TermWord {
     /// `let`
     Let,
     /// `forall`
@@ -50,6 +50,7 @@ pub enum TermWord {
     Other,
 }
 
+/// Whether the token is a symbol, with bars or without.
 pub fn is_symbol(tok: &Tok) -> bool
     ensures { result ≡ is_a_symbol tok.now }
 {
@@ -59,6 +60,7 @@ pub fn is_symbol(tok: &Tok) -> bool
     }
 }
 
+/// Whether the token is a numeral.
 pub fn is_numeral(tok: &Tok) -> bool
     ensures { result ≡ is_a_numeral tok.now }
 {
@@ -68,6 +70,7 @@ pub fn is_numeral(tok: &Tok) -> bool
     }
 }
 
+/// Whether the token is a string literal.
 pub fn is_string(tok: &Tok) -> bool
     ensures { result ≡ is_a_string tok.now }
 {
@@ -77,6 +80,7 @@ pub fn is_string(tok: &Tok) -> bool
     }
 }
 
+/// Whether the token is a keyword.
 pub fn is_keyword(tok: &Tok) -> bool
     ensures { result ≡ is_a_keyword tok.now }
 {
@@ -87,7 +91,7 @@ pub fn is_keyword(tok: &Tok) -> bool
 }
 
 /// Whether the token is a numeral or a symbol.
-pub fn is_index(tok: &Tok) -> bool
+pub(crate) fn is_index(tok: &Tok) -> bool
     ensures { result ≡ is_an_index tok.now }
 {
     match tok.kind {
@@ -97,7 +101,7 @@ pub fn is_index(tok: &Tok) -> bool
 }
 
 /// Whether the token is a numeral, a decimal, a hexadecimal, a binary or a string literal.
-pub fn is_constant(tok: &Tok) -> bool
+pub(crate) fn is_constant(tok: &Tok) -> bool
     ensures { result ≡ is_a_constant tok.now }
 {
     match tok.kind {
@@ -122,7 +126,7 @@ pub fn is_reserved(tok: &Tok, number: u32) -> bool
 }
 
 /// The reserved word that the token is.
-pub fn term_word(tok: &Tok) -> TermWord
+pub(crate) fn term_word(tok: &Tok) -> TermWord
     ensures { result ≡ begins_with tok.now }
 {
     match tok.kind {
@@ -160,7 +164,7 @@ pub fn is_key(tok: &Tok, number: u32) -> bool
 }
 
 /// Whether the token can be a value: a constant or a symbol.
-pub fn is_value_token(tok: &Tok) -> bool
+pub(crate) fn is_value_token(tok: &Tok) -> bool
     ensures { result ≡ is_a_value_token tok.now }
 {
     is_constant(tok) || is_symbol(tok)
