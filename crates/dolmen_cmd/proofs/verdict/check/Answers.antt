@@ -3,7 +3,7 @@ use Rattle.dolmen_cmd.proofs.Deciding.{feed_checks, finish_checks}
 use Rattle.dolmen_cmd.proofs.verdict.check.Goals as goal
 
 pub returns-in-Err-feed : goal.returns-in-Err-feed
-returns-in-Err-feed c = feed_checks c.args.bytes.now c.feed.new.self.checker.count c.in-Err-feed.stop (c.in-Err-feed.ensures.judged [] c.in-Ok.ensures)
+returns-in-Err-feed c = feed_checks c.args.bytes.now c.feed.new.self.checker.count c.in-Err-feed.stop (c.in-Err-feed.ensures.judged [] c.in-Ok.ensures.given)
 
 pub returns : goal.returns
-returns c = finish_checks c.args.bytes.now c.finish.new.self.checker.count c.in-Err-finish.stop (c.in-Err-finish.ensures.judged c.args.bytes.now (c.in-Ok-feed.ensures.given [] c.in-Ok.ensures))
+returns c = finish_checks c.args.bytes.now c.finish.new.self.checker.count c.in-Err-finish.stop (c.in-Err-finish.ensures.judged c.args.bytes.now (c.in-Ok-feed.ensures.given [] c.in-Ok.ensures.given))
