@@ -1,6 +1,6 @@
 #!/usr/bin/env bash
 # Measures `dolmen check` on accepted scripts of 1, 8 and 64 MB: MB/s and peak memory. The time grows linearly with the
-# input but for one thing: declared names are a list that is searched, so each script declares only a hundred names.
+# input. Each script declares a hundred names; those with many are for declarations.sh.
 set -euo pipefail
 cd "$(dirname "$0")/.."
 . bench/measure.sh

@@ -19,11 +19,15 @@ use Rattle.sexp_core.specs.Sexp.{FlatToken, Opening, Closing, Word, Sexp, atom, 
 use Rattle.sexp_core.specs.Tokens.{flat_of, flat_tok, flat_token, flat_tokens}
 use Rattle.judgement.specs.Judging.{Outcome, ill_sorted, well_sorted}
 use Rattle.cmd_grammar.specs.Commands.{Command}
+use Rattle.scope_stack.specs.Environment.{empty}
+use Rattle.scope_stack.specs.Environment.{Environment as Scopes}
+use Rattle.typer.proofs.ReadyCalls.{ready_with_names}
+use Rattle.typer.specs.Declarations.{declarations_of, no_declarations}
 use Rattle.script_core.specs.declared.checker.Checker.{Checker}
 use Rattle.script_core.specs.declared.refusal.Progress.TheVariants as progress
 use Rattle.script_core.specs.declared.refusal.Refusal.{Refusal}
 use Rattle.script_core.specs.Acceptance.{place_of}
-use Rattle.script_core.specs.Checking.{Awaits, Exits, Follows, HasTaken, HasTokensOf, TakesTree, TokenBreaks, environment_of, texts_of}
+use Rattle.script_core.specs.Checking.{Awaits, Exits, Follows, HasTaken, HasTokensOf, IsReadyCore, TakesTree, TokenBreaks, environment_of, texts_of}
 use Rattle.script_core.specs.Environment.{Environment, start}
 use Rattle.script_core.specs.Interned.{AreInterned, sexp_of}
 use Rattle.script_core.specs.Numbering.{numbered_sexp, table_after}
@@ -69,34 +73,36 @@ interned_last texts (Closing ∷ u) tok h n = interned_last texts u tok h n
 interned_last texts (Word a ∷ u) tok h n = (h.0, interned_last texts u tok h.1 n)
 
 -- the table after the unfinished list and the next token
-next_table : (known : List (List ℕ)) (tokens : List Token) (c : Checker) (t : Token) (f : Follows known tokens c) → c.names ≡ table_after known (flat_token t ∷ [])
-    → c.names ≡ table_after f.names (texts_of c.names c.builder.0 ++ flat_token t ∷ [])
+next_table : (known : List (List ℕ)) (tokens : List Token) (c : Checker) (t : Token) (f : Follows known tokens c) → c.scope.world.names ≡ table_after known (flat_token t ∷ [])
+    → c.scope.world.names ≡ table_after f.names (texts_of c.scope.world.names c.builder.0 ++ flat_token t ∷ [])
 next_table known tokens c t f awaited =
-    awaited ∙ (ap (λ (k : List (List ℕ)). table_after k (flat_token t ∷ [])) f.table ∙ sym (table_append f.names (texts_of c.names c.builder.0) (flat_token t ∷ [])))
+    awaited ∙ (ap (λ (k : List (List ℕ)). table_after k (flat_token t ∷ [])) f.table ∙ sym (table_append f.names (texts_of c.scope.world.names c.builder.0) (flat_token t ∷ [])))
 
 -- the next token goes on with the unfinished list
-pub follows_inside : (tokens : List Token) (c : Checker) (tok : Tok) (new : State) → Awaits tokens (token_of c.names tok ∷ []) c → tok.name < length c.names → new ≡ (c.builder.0 ++ flat_tok tok ∷ [], None)
-    → IsUnfinished new.0 → ((rule : Code) → TreeFault c.builder.0 (flat_tok tok) rule → ⊥) → HasTokensOf (tokens ++ token_of c.names tok ∷ []) (record c { builder = new })
+pub follows_inside : (tokens : List Token) (c : Checker) (tok : Tok) (new : State) → Awaits tokens (token_of c.scope.world.names tok ∷ []) c → tok.name < length c.scope.world.names → new ≡ (c.builder.0 ++ flat_tok tok ∷ [], None)
+    → IsUnfinished new.0 → ((rule : Code) → TreeFault c.builder.0 (flat_tok tok) rule → ⊥) → HasTokensOf (tokens ++ token_of c.scope.world.names tok ∷ []) (record c { builder = new })
 follows_inside tokens c tok new w named held unfinished fine =
     let f = w.follows in
     let u = c.builder.0 in
-    let last = texts_more c.names u tok in
-    let is_unfinished : IsUnfinished (texts_of c.names u ++ flat_token (token_of c.names tok) ∷ []) =
-    subst (λ (fs : List (FlatToken Token)). IsUnfinished fs) last (unfinished-map (token_of c.names) (u ++ flat_tok tok ∷ []) (subst (λ (s : State). IsUnfinished s.0) held unfinished)) in
-    let reads = one_token tokens (token_of c.names tok) f.lists (texts_of c.names u ++ flat_token (token_of c.names tok) ∷ [])
-    (reads_more (flat_tokens tokens) f.lists (texts_of c.names u) (flat_token (token_of c.names tok)) f.reads (λ rule h. fine rule (fault_numbers c.names u tok rule h)) is_unfinished) in
+    let last = texts_more c.scope.world.names u tok in
+    let is_unfinished : IsUnfinished (texts_of c.scope.world.names u ++ flat_token (token_of c.scope.world.names tok) ∷ []) =
+    subst (λ (fs : List (FlatToken Token)). IsUnfinished fs) last (unfinished-map (token_of c.scope.world.names) (u ++ flat_tok tok ∷ []) (subst (λ (s : State). IsUnfinished s.0) held unfinished)) in
+    let reads = one_token tokens (token_of c.scope.world.names tok) f.lists (texts_of c.scope.world.names u ++ flat_token (token_of c.scope.world.names tok) ∷ [])
+    (reads_more (flat_tokens tokens) f.lists (texts_of c.scope.world.names u) (flat_token (token_of c.scope.world.names tok)) f.reads (λ rule h. fine rule (fault_numbers c.scope.world.names u tok rule h)) is_unfinished) in
     record {
       lists = f.lists;
       commands = f.commands;
       names = f.names;
-      reads = subst (λ (s : State). Reads (flat_tokens (tokens ++ token_of c.names tok ∷ [])) f.lists (texts_of c.names s.0)) (sym held)
-          (subst (λ (fs : List (FlatToken Token)). Reads (flat_tokens (tokens ++ token_of c.names tok ∷ [])) f.lists fs) (sym last) reads);
+      reads = subst (λ (s : State). Reads (flat_tokens (tokens ++ token_of c.scope.world.names tok ∷ [])) f.lists (texts_of c.scope.world.names s.0)) (sym held)
+          (subst (λ (fs : List (FlatToken Token)). Reads (flat_tokens (tokens ++ token_of c.scope.world.names tok ∷ [])) f.lists fs) (sym last) reads);
       no_error = ap (λ (s : State). s.1) held;
       runs = f.runs;
       counted = f.counted;
-      interned = subst (λ (s : State). AreInterned c.names s.0) (sym held) (interned_last c.names u tok f.interned named);
-      table = subst (λ (s : State). c.names ≡ table_after f.names (texts_of c.names s.0)) (sym held)
-          (next_table w.known tokens c (token_of c.names tok) f w.names ∙ ap (λ (fs : List (FlatToken Token)). table_after f.names fs) (sym last));
+      interned = subst (λ (s : State). AreInterned c.scope.world.names s.0) (sym held) (interned_last c.scope.world.names u tok f.interned named);
+      table = subst (λ (s : State). c.scope.world.names ≡ table_after f.names (texts_of c.scope.world.names s.0)) (sym held)
+          (next_table w.known tokens c (token_of c.scope.world.names tok) f w.names ∙ ap (λ (fs : List (FlatToken Token)). table_after f.names fs) (sym last));
+      ready = f.ready;
+      core = f.core;
     }
 
 is_list_told : (texts : List (List ℕ)) (t : Sexp Tok) → IsList t → IsList (sexp_of texts t)
@@ -109,100 +115,102 @@ told_list texts u tok t e = flat-map_sexp (token_of texts) t ∙ ap (texts_of te
 
 -- what is judged of a tree with numbers is judged of its list
 judged_told : (known : List (List ℕ)) (tokens : List Token) (c : Checker) (tok : Tok) (t : Sexp Tok) (o : Outcome (Command × Environment)) (f : Follows known tokens c)
-    → c.names ≡ table_after known (flat_token (token_of c.names tok) ∷ []) → IsNameTable c.names → tok.name < length c.names → flat t ≡ c.builder.0 ++ flat_tok tok ∷ []
-    → judge_tree (environment_of c.names c.scope) t [] o → judge_list (environment_of f.names c.scope) (sexp_of c.names t) [] o
+    → c.scope.world.names ≡ table_after known (flat_token (token_of c.scope.world.names tok) ∷ []) → IsNameTable c.scope.world.names → tok.name < length c.scope.world.names → flat t ≡ c.builder.0 ++ flat_tok tok ∷ []
+    → judge_tree (environment_of c.scope.world.names c.scope) t [] o → judge_list (environment_of f.names c.scope) (sexp_of c.scope.world.names t) [] o
 judged_told known tokens c tok t o f awaited table named e judged =
-    let interned : AreInterned c.names (flat t) = rw e (interned_last c.names c.builder.0 tok f.interned named) in
-    let number : numbered_sexp c.names (sexp_of c.names t) ≡ t = numbered_tree c.names t table.distinct interned in
-    let names : table_after f.names (flat (sexp_of c.names t)) ≡ c.names =
-    ap (λ (fs : List (FlatToken Token)). table_after f.names fs) (told_list c.names c.builder.0 tok t e) ∙ sym (next_table known tokens c (token_of c.names tok) f awaited) in
-    subst (λ (ns : List (List ℕ)). judge_tree (environment_of ns c.scope) (numbered_sexp ns (sexp_of c.names t)) [] o) (sym names)
-    (subst (λ (x : Sexp Tok). judge_tree (environment_of c.names c.scope) x [] o) (sym number) judged)
+    let interned : AreInterned c.scope.world.names (flat t) = rw e (interned_last c.scope.world.names c.builder.0 tok f.interned named) in
+    let number : numbered_sexp c.scope.world.names (sexp_of c.scope.world.names t) ≡ t = numbered_tree c.scope.world.names t table.distinct interned in
+    let names : table_after f.names (flat (sexp_of c.scope.world.names t)) ≡ c.scope.world.names =
+    ap (λ (fs : List (FlatToken Token)). table_after f.names fs) (told_list c.scope.world.names c.builder.0 tok t e) ∙ sym (next_table known tokens c (token_of c.scope.world.names tok) f awaited) in
+    subst (λ (ns : List (List ℕ)). judge_tree (environment_of ns c.scope) (numbered_sexp ns (sexp_of c.scope.world.names t)) [] o) (sym names)
+    (subst (λ (x : Sexp Tok). judge_tree (environment_of c.scope.world.names c.scope) x [] o) (sym number) judged)
 
 -- the lists of the tokens with the one that the next token completes
 reads_told : (known : List (List ℕ)) (tokens : List Token) (c : Checker) (tok : Tok) (t : Sexp Tok) (f : Follows known tokens c) → IsList t → flat t ≡ c.builder.0 ++ flat_tok tok ∷ []
-    → Reads (flat_tokens (tokens ++ token_of c.names tok ∷ [])) (f.lists ++ sexp_of c.names t ∷ []) []
+    → Reads (flat_tokens (tokens ++ token_of c.scope.world.names tok ∷ [])) (f.lists ++ sexp_of c.scope.world.names t ∷ []) []
 reads_told known tokens c tok t f is_list e =
-    one_token tokens (token_of c.names tok) (f.lists ++ sexp_of c.names t ∷ []) []
-    (reads_list (flat_tokens tokens) f.lists (texts_of c.names c.builder.0) (flat_token (token_of c.names tok)) (sexp_of c.names t) f.reads (is_list_told c.names t is_list)
-    (told_list c.names c.builder.0 tok t e))
+    one_token tokens (token_of c.scope.world.names tok) (f.lists ++ sexp_of c.scope.world.names t ∷ []) []
+    (reads_list (flat_tokens tokens) f.lists (texts_of c.scope.world.names c.builder.0) (flat_token (token_of c.scope.world.names tok)) (sexp_of c.scope.world.names t) f.reads (is_list_told c.scope.world.names t is_list)
+    (told_list c.scope.world.names c.builder.0 tok t e))
 
 one_more : (commands : List Command) (command : Command) (old new : ℕ) → old ≡ length commands → new ≡ old + 1 → new ≡ length (commands ++ command ∷ [])
 one_more commands command old new counted more = omega (arith, counted, more, length-append commands (command ∷ []))
 
 -- the next token completes a list, which is taken
-pub follows_list : (tokens : List Token) (c n : Checker) (tok : Tok) (t : Sexp Tok) → Awaits tokens (token_of c.names tok ∷ []) c → IsNameTable c.names → tok.name < length c.names
-    → IsList t → flat t ≡ c.builder.0 ++ flat_tok tok ∷ [] → n.builder ≡ ([], None) → n.names ≡ c.names
-    → TakesTree (environment_of c.names c.scope) t progress.More (environment_of c.names n.scope) → n.count ≡ c.count + 1
-    → HasTokensOf (tokens ++ token_of c.names tok ∷ []) n
-follows_list tokens c n tok t w table named is_list e emptied same (command, declared, judged, goes) counted =
+pub follows_list : (tokens : List Token) (c n : Checker) (tok : Tok) (t : Sexp Tok) → Awaits tokens (token_of c.scope.world.names tok ∷ []) c → IsNameTable c.scope.world.names → tok.name < length c.scope.world.names
+    → IsList t → flat t ≡ c.builder.0 ++ flat_tok tok ∷ [] → n.builder ≡ ([], None) → n.scope.world.names ≡ c.scope.world.names
+    → TakesTree (environment_of c.scope.world.names c.scope) t progress.More (environment_of c.scope.world.names n.scope) → n.count ≡ c.count + 1 → IsReadyCore n.scope.world
+    → HasTokensOf (tokens ++ token_of c.scope.world.names tok ∷ []) n
+follows_list tokens c n tok t w table named is_list e emptied same (command, declared, judged, goes) counted stands =
     let f = w.follows in
-    let steps = judged_told w.known tokens c tok t (well_sorted (command, environment_of c.names n.scope) declared) f w.names table named e judged in
-    let runs = next_taken f.lists (sexp_of c.names t) start (environment_of f.names c.scope) (environment_of c.names n.scope) f.commands command f.runs (declared, steps) goes in
+    let steps = judged_told w.known tokens c tok t (well_sorted (command, environment_of c.scope.world.names n.scope) declared) f w.names table named e judged in
+    let runs = next_taken f.lists (sexp_of c.scope.world.names t) start (environment_of f.names c.scope) (environment_of c.scope.world.names n.scope) f.commands command f.runs (declared, steps) goes in
     record {
-      lists = f.lists ++ sexp_of c.names t ∷ [];
+      lists = f.lists ++ sexp_of c.scope.world.names t ∷ [];
       commands = f.commands ++ command ∷ [];
-      names = c.names;
-      reads = subst (λ (s : State). Reads (flat_tokens (tokens ++ token_of c.names tok ∷ [])) (f.lists ++ sexp_of c.names t ∷ []) (texts_of n.names s.0)) (sym emptied)
+      names = c.scope.world.names;
+      reads = subst (λ (s : State). Reads (flat_tokens (tokens ++ token_of c.scope.world.names tok ∷ [])) (f.lists ++ sexp_of c.scope.world.names t ∷ []) (texts_of n.scope.world.names s.0)) (sym emptied)
           (reads_told w.known tokens c tok t f is_list e);
       no_error = ap (λ (s : State). s.1) emptied;
       runs = runs;
       counted = one_more f.commands command c.count n.count f.counted counted;
-      interned = subst (λ (s : State). AreInterned n.names s.0) (sym emptied) tt;
-      table = subst (λ (s : State). n.names ≡ table_after c.names (texts_of n.names s.0)) (sym emptied) same;
+      interned = subst (λ (s : State). AreInterned n.scope.world.names s.0) (sym emptied) tt;
+      table = subst (λ (s : State). n.scope.world.names ≡ table_after c.scope.world.names (texts_of n.scope.world.names s.0)) (sym emptied) same;
+      ready = stands.ready;
+      core = stands.core;
     }
 
 -- the next token completes an `exit`
-pub exits_list : (tokens : List Token) (c n : Checker) (tok : Tok) (t : Sexp Tok) → Awaits tokens (token_of c.names tok ∷ []) c → IsNameTable c.names → tok.name < length c.names
+pub exits_list : (tokens : List Token) (c n : Checker) (tok : Tok) (t : Sexp Tok) → Awaits tokens (token_of c.scope.world.names tok ∷ []) c → IsNameTable c.scope.world.names → tok.name < length c.scope.world.names
     → IsList t → flat t ≡ c.builder.0 ++ flat_tok tok ∷ []
-    → TakesTree (environment_of c.names c.scope) t progress.Ended (environment_of c.names n.scope) → n.count ≡ c.count + 1
-    → Exits (tokens ++ token_of c.names tok ∷ []) n.count
+    → TakesTree (environment_of c.scope.world.names c.scope) t progress.Ended (environment_of c.scope.world.names n.scope) → n.count ≡ c.count + 1
+    → Exits (tokens ++ token_of c.scope.world.names tok ∷ []) n.count
 exits_list tokens c n tok t w table named is_list e (command, declared, judged, exits) counted =
     let f = w.follows in
-    let steps = judged_told w.known tokens c tok t (well_sorted (command, environment_of c.names n.scope) declared) f w.names table named e judged in
-    let runs = next_exits f.lists (sexp_of c.names t) start (environment_of f.names c.scope) (environment_of c.names n.scope) f.commands command f.runs (declared, steps) exits in
+    let steps = judged_told w.known tokens c tok t (well_sorted (command, environment_of c.scope.world.names n.scope) declared) f w.names table named e judged in
+    let runs = next_exits f.lists (sexp_of c.scope.world.names t) start (environment_of f.names c.scope) (environment_of c.scope.world.names n.scope) f.commands command f.runs (declared, steps) exits in
     record {
-      front = tokens ++ token_of c.names tok ∷ [];
+      front = tokens ++ token_of c.scope.world.names tok ∷ [];
       back = [];
-      spelled = sym (append-nil (tokens ++ token_of c.names tok ∷ []));
-      lists = f.lists ++ sexp_of c.names t ∷ [];
+      spelled = sym (append-nil (tokens ++ token_of c.scope.world.names tok ∷ []));
+      lists = f.lists ++ sexp_of c.scope.world.names t ∷ [];
       reads = reads_told w.known tokens c tok t f is_list e;
-      run = record { commands = f.commands ++ command ∷ []; env = environment_of c.names n.scope; cause = exited };
+      run = record { commands = f.commands ++ command ∷ []; env = environment_of c.scope.world.names n.scope; cause = exited };
       runs = runs;
       ends = refl;
       counted = one_more f.commands command c.count n.count f.counted counted;
     }
 
 -- the next token breaks a rule of lists
-pub breaks_lists : (tokens : List Token) (c : Checker) (tok : Tok) (code : Code) (at : ℕ) → Awaits tokens (token_of c.names tok ∷ []) c → TreeFault c.builder.0 (flat_tok tok) code → at ≡ tok.at
-    → TokenBreaks tokens (token_of c.names tok) (record { command = c.count + 1; at = at; rule = code })
+pub breaks_lists : (tokens : List Token) (c : Checker) (tok : Tok) (code : Code) (at : ℕ) → Awaits tokens (token_of c.scope.world.names tok ∷ []) c → TreeFault c.builder.0 (flat_tok tok) code → at ≡ tok.at
+    → TokenBreaks tokens (token_of c.scope.world.names tok) (record { command = c.count + 1; at = at; rule = code })
 breaks_lists tokens c tok code at w fault place = record {
   lists = w.follows.lists;
   commands = w.follows.commands;
   env = environment_of w.follows.names c.scope;
-  unfinished = texts_of c.names c.builder.0;
+  unfinished = texts_of c.scope.world.names c.builder.0;
   reads = w.follows.reads;
   runs = w.follows.runs;
   number = ap (λ (n : ℕ). n + 1) w.follows.counted;
-  fault = inl (fault_told c.names c.builder.0 tok code fault, place);
+  fault = inl (fault_told c.scope.world.names c.builder.0 tok code fault, place);
 }
 
 -- the next token completes a list that breaks a rule
-pub breaks_command : (tokens : List Token) (c : Checker) (tok : Tok) (t : Sexp Tok) (refusal : Refusal) → Awaits tokens (token_of c.names tok ∷ []) c → IsNameTable c.names → tok.name < length c.names
+pub breaks_command : (tokens : List Token) (c : Checker) (tok : Tok) (t : Sexp Tok) (refusal : Refusal) → Awaits tokens (token_of c.scope.world.names tok ∷ []) c → IsNameTable c.scope.world.names → tok.name < length c.scope.world.names
     → IsList t → flat t ≡ c.builder.0 ++ flat_tok tok ∷ []
-    → judge_tree (environment_of c.names c.scope) t [] (ill_sorted (place_of refusal)) → refusal.command ≡ c.count + 1 → TokenBreaks tokens (token_of c.names tok) refusal
+    → judge_tree (environment_of c.scope.world.names c.scope) t [] (ill_sorted (place_of refusal)) → refusal.command ≡ c.count + 1 → TokenBreaks tokens (token_of c.scope.world.names tok) refusal
 breaks_command tokens c tok t refusal w table named is_list e fault number = record {
   lists = w.follows.lists;
   commands = w.follows.commands;
   env = environment_of w.follows.names c.scope;
-  unfinished = texts_of c.names c.builder.0;
+  unfinished = texts_of c.scope.world.names c.builder.0;
   reads = w.follows.reads;
   runs = w.follows.runs;
   number = number ∙ ap (λ (n : ℕ). n + 1) w.follows.counted;
   fault = inr (
-    sexp_of c.names t,
-    is_list_told c.names t is_list,
-    told_list c.names c.builder.0 tok t e,
+    sexp_of c.scope.world.names t,
+    is_list_told c.scope.world.names t is_list,
+    told_list c.scope.world.names c.builder.0 tok t e,
     judged_told w.known tokens c tok t (ill_sorted (place_of refusal)) w.follows w.names table named e fault,
   );
 }
@@ -222,10 +230,14 @@ grown_interned old new (Opening at ∷ u) e h = grown_interned old new u e h
 grown_interned old new (Closing ∷ u) e h = grown_interned old new u e h
 grown_interned old new (Word a ∷ u) e h = (number_kept old new a.name e h.0, grown_interned old new u e h.1)
 
-pub follows_grown : (known : List (List ℕ)) (tokens : List Token) (c : Checker) (new : List (List ℕ)) (lexer : Option LexerState) → ExtendsTable c.names new → Follows known tokens c
-    → Follows known tokens (record c { names = new; lexer = lexer })
+-- the checker once the lexer has taken a byte
+abbrev pub lexed : Checker → List (List ℕ) → Option LexerState → Checker
+lexed c names lexer = record c { scope = record c.scope { world = record c.scope.world { names = names } }; lexer = lexer }
+
+pub follows_grown : (known : List (List ℕ)) (tokens : List Token) (c : Checker) (new : List (List ℕ)) (lexer : Option LexerState) → ExtendsTable c.scope.world.names new → Follows known tokens c
+    → Follows known tokens (lexed c new lexer)
 follows_grown known tokens c new lexer e f =
-    let same : texts_of new c.builder.0 ≡ texts_of c.names c.builder.0 = grown_texts c.names new c.builder.0 e f.interned in record {
+    let same : texts_of new c.builder.0 ≡ texts_of c.scope.world.names c.builder.0 = grown_texts c.scope.world.names new c.builder.0 e f.interned in record {
       lists = f.lists;
       commands = f.commands;
       names = f.names;
@@ -233,29 +245,34 @@ follows_grown known tokens c new lexer e f =
       no_error = f.no_error;
       runs = f.runs;
       counted = f.counted;
-      interned = grown_interned c.names new c.builder.0 e f.interned;
+      interned = grown_interned c.scope.world.names new c.builder.0 e f.interned;
       table = f.table ∙ ap (λ (fs : List (FlatToken Token)). table_after f.names fs) (sym same);
+      ready = ready_with_names c.scope.world new e f.ready;
+      core = f.core;
     }
 
 -- nothing was taken yet
-pub starts : (c : Checker) → c.builder ≡ ([], None) → c.scope.logic ≡ false → c.scope.declared.items ≡ [] → c.count ≡ 0 → HasRead [] [] c.lexer → c.names ≡ fixed_texts → IsNameTable c.names
-    → length c.names ≤ 57 → HasTaken [] c
-starts c builder logic declared count read names table few = record {
+pub starts : (c : Checker) → c.builder ≡ ([], None) → c.scope.logic ≡ false → c.scope.world.scopes ≡ empty → c.scope.next ≡ 0 → c.count ≡ 0 → HasRead [] [] c.lexer
+    → c.scope.world.names ≡ fixed_texts → IsNameTable c.scope.world.names → IsReadyCore c.scope.world → length c.scope.world.names ≤ 57 → HasTaken [] c
+starts c builder logic scopes next count read names table stands few = record {
   tokens = [];
   read = read;
   follows = record {
     lists = [];
     commands = [];
-    names = c.names;
-    reads = subst (λ (s : State). Reads [] [] (texts_of c.names s.0)) (sym builder) reads_nothing;
+    names = c.scope.world.names;
+    reads = subst (λ (s : State). Reads [] [] (texts_of c.scope.world.names s.0)) (sym builder) reads_nothing;
     no_error = ap (λ (s : State). s.1) builder;
     runs = ap (λ (e : Environment). record { commands = []; env = e; cause = all_taken })
-        (ap (λ (ns : List (List ℕ)). record { names = ns; logic = c.scope.logic; declared = c.scope.declared.items }) names
-        ∙ (ap (λ (b : Bool). record { names = fixed_texts; logic = b; declared = c.scope.declared.items }) logic
-        ∙ ap (λ (ids : List ℕ). record { names = fixed_texts; logic = false; declared = ids }) declared));
+        (ap (λ (ns : List (List ℕ)). record { names = ns; logic = c.scope.logic; declarations = declarations_of c.scope.world.scopes; next = c.scope.next }) names
+        ∙ (ap (λ (b : Bool). record { names = fixed_texts; logic = b; declarations = declarations_of c.scope.world.scopes; next = c.scope.next }) logic
+        ∙ (ap (λ (d : Scopes). record { names = fixed_texts; logic = false; declarations = declarations_of d; next = c.scope.next }) scopes
+        ∙ ap (λ (n : ℕ). record { names = fixed_texts; logic = false; declarations = no_declarations; next = n }) next)));
     counted = count;
-    interned = subst (λ (s : State). AreInterned c.names s.0) (sym builder) tt;
-    table = subst (λ (s : State). c.names ≡ table_after c.names (texts_of c.names s.0)) (sym builder) refl;
+    interned = subst (λ (s : State). AreInterned c.scope.world.names s.0) (sym builder) tt;
+    table = subst (λ (s : State). c.scope.world.names ≡ table_after c.scope.world.names (texts_of c.scope.world.names s.0)) (sym builder) refl;
+    ready = stands.ready;
+    core = stands.core;
   };
   table = table;
   few_names = omega (arith, few);

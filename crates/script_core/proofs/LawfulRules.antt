@@ -1,5 +1,5 @@
 -- Each list has exactly one outcome as the next command.
-use Rattle.std.proofs.Common.{◌≡◌, ℕ, Bool, true, false, List, [], Option, Some, None, Result, Ok, Err, refl, ap, sym, ◌∙◌, ◌⊎◌, inl, inr, codes}
+use Rattle.std.proofs.Common.{◌≡◌, ℕ, Bool, true, false, List, [], ◌∷◌, ◌++◌, Option, Some, None, refl, ap, sym, ◌∙◌, ◌⊎◌, inl, inr, codes}
 use Rattle.std.specs.Prelude.{slice_get}
 use Rattle.std.specs.Str.{bytes_eq}
 use Rattle.std.proofs.lemmas.Bool.{cases_Bool, false≢true}
@@ -10,25 +10,31 @@ use Rattle.lex_core.specs.declared.token.Tok.{Tok}
 use Rattle.sexp_core.specs.Sexp.{Sexp}
 use Rattle.judgement.specs.Judging.{Outcome, Lawful, well_sorted, ill_sorted}
 use Rattle.judgement.proofs.JudgementLaws.{fault_once, lawful-check, lawful-done, lawful-refuse, lawful-then, never_both, test_decided, value_once, value_or_fault}
-use Rattle.term_grammar.specs.Syntax.{symbol, indexed, Sort, named_sort, applied_sort, Sorts, no_sorts, with_sort, Qualified, unqualified, qualified, Term, constant, qualified_term, application, let_in, for_all, there_exists, match_with, annotated, Terms, no_terms, with_term}
-use Rattle.cmd_grammar.specs.Commands.{Command, assert, declare_const, echo, exit, get_info, get_option, set_info, set_logic, set_option}
-use Rattle.cmd_grammar.specs.CommandReads.{read_command}
+use Rattle.term_grammar.specs.Syntax.{Qualified, unqualified, qualified, Term, constant, qualified_term, application, let_in, for_all, there_exists, match_with, annotated, Terms, no_terms, with_term}
+use Rattle.cmd_grammar.specs.Commands.{Command, assert, declare_const, declare_fun, declare_sort, define_sort, echo, exit, get_info, get_option, pop, push, reset, reset_assertions, set_info, set_logic, set_option}
+use Rattle.cmd_grammar.specs.Grammar.{IsGrammarFault, ReadsCommand}
+use Rattle.cmd_grammar.proofs.GrammarAgrees.{one_command, one_of_both, not_both}
+use Rattle.cmd_grammar.proofs.GrammarAgrees as grammar
+use Rattle.typer.proofs.SortLaws.{at_most, lawful-sort, lawful-sorts}
+use Rattle.typer.proofs.TermLaws.{lawful-term}
 use Rattle.script_core.specs.Environment.{Environment}
 use Rattle.script_core.specs.Numbering.{numbered_sexp}
-use Rattle.script_core.specs.Rules.{has_rank, is_built, is_known, judge_all_built, judge_application, judge_built, judge_command, judge_form, judge_head, judge_mode, judge_parts, judge_sort, judge_sorts, judge_term, judge_terms}
-use Rattle.script_core.specs.Steps.{ListFault, ListSteps, answered, judge_list, judge_tree, with_names}
+use Rattle.script_core.specs.Rules.{is_bool, is_built, judge_all_built, judge_built, judge_command, judge_form, judge_head, judge_mode, judge_params, judge_parts}
+use Rattle.script_core.specs.Steps.{ListFault, ListSteps, judge_grammar, judge_list, judge_tree, with_names}
 
-lawful-answered : {A : Type 0} (r : Result A Place) → Lawful (answered r)
-lawful-answered {A} (Ok x) before = record { outcome = well_sorted x before; holds = (refl, refl); only = only }
+lawful-grammar : (t : Sexp Tok) → Lawful (judge_grammar t)
+lawful-grammar t before = elim (one_of_both t) [
+  | inl (c, reads) ↦ record { outcome = well_sorted c before; holds = (reads, refl); only = one_read c reads }
+  | inr (p, fault) ↦ record { outcome = ill_sorted p; holds = fault; only = one_refused p fault }
+]
   where
-    only : (o : Outcome A) → answered (Ok x) before o → o ≡ well_sorted x before
-    only (well_sorted y t) h = let e : x ≡ y = let k = h.0 in cc in let s = h.1 in cc
-    only (ill_sorted p) h = let k : ◌≡◌ {A = Result A Place} (Ok x) (Err p) = h in cc
-lawful-answered {A} (Err p) before = record { outcome = ill_sorted p; holds = refl; only = only }
-  where
-    only : (o : Outcome A) → answered (Err p) before o → o ≡ ill_sorted p
-    only (well_sorted y t) h = let k : ◌≡◌ {A = Result A Place} (Err p) (Ok y) = h.0 in cc
-    only (ill_sorted q) h = let k : ◌≡◌ {A = Result A Place} (Err p) (Err q) = h in cc
+    one_read : (c : Command) → ReadsCommand t c → (o : Outcome Command) → judge_grammar t before o → o ≡ well_sorted c before
+    one_read c reads (well_sorted d after) h = let e : d ≡ c = one_command t d c h.0 reads in let s = h.1 in cc
+    one_read c reads (ill_sorted p) h = absurd (not_both t c p reads h)
+
+    one_refused : (p : Place) → IsGrammarFault t p → (o : Outcome Command) → judge_grammar t before o → o ≡ ill_sorted p
+    one_refused p fault (well_sorted d after) h = absurd (not_both t d p h.0 fault)
+    one_refused p fault (ill_sorted q) h = let e : q ≡ p = grammar.one_fault t q p h fault in ap ill_sorted e
 
 is_false : (b : Bool) → (b ≡ false) ⊎ ((b ≡ false) → ⊥)
 is_false true = inr (λ e. false≢true (sym e))
@@ -72,51 +78,39 @@ lawful-mode env at (set_info a) = lawful-done _
 lawful-mode env at (get_option k) = lawful-done _
 lawful-mode env at (get_info k) = lawful-done _
 lawful-mode env at (echo t) = lawful-done _
+lawful-mode env at reset = lawful-done _
 lawful-mode env at exit = lawful-done _
+lawful-mode env at (push n) = lawful-then _ _ (lawful-check _ _ _ (test_decided env.logic)) (λ u. lawful-check _ _ _ (at_most _ _))
+lawful-mode env at (pop n) = lawful-then _ _ (lawful-check _ _ _ (test_decided env.logic)) (λ u. lawful-check _ _ _ (at_most _ _))
 lawful-mode env at c = lawful-check _ _ _ (test_decided env.logic)
 
-mutual
-  lawful-sort : (s : Sort) (env : Environment) → Lawful (judge_sort env s)
-  lawful-sort (named_sort (symbol n)) env = lawful-check _ _ _ (has_text (slice_get env.names n.name) (codes "Bool"))
-  lawful-sort (named_sort (indexed at n is)) env = lawful-refuse _ _
-  lawful-sort (applied_sort at i ss) env = lawful-then _ _ (lawful-sorts ss env) (λ u. lawful-refuse _ _)
-
-  lawful-sorts : (ss : Sorts) (env : Environment) → Lawful (judge_sorts env ss)
-  lawful-sorts no_sorts env = lawful-done _
-  lawful-sorts (with_sort s ss) env = lawful-then _ _ (lawful-sort s env) (λ u. lawful-sorts ss env)
-
-lawful-application : (env : Environment) (at : ℕ) (q : Qualified) (count : ℕ) → Lawful (judge_application env at q count)
-lawful-application env at (unqualified (symbol s)) count =
-    lawful-then _ _ (lawful-check _ _ _ (test_decided (is_known env s.name))) (λ u. lawful-check _ _ _ (test_decided (has_rank s.name count)))
-lawful-application env at (unqualified (indexed b n is)) count = lawful-refuse _ _
-lawful-application env at (qualified b i s) count = lawful-refuse _ _
-
-mutual
-  lawful-term : (t : Term) (env : Environment) → Lawful (judge_term env t)
-  lawful-term (constant c) env = lawful-refuse _ _
-  lawful-term (qualified_term q) env = lawful-application env _ q 0
-  lawful-term (application at q ts) env = lawful-then _ _ (lawful-terms ts env) (λ u. lawful-application env at q _)
-  lawful-term (let_in at bs u) env = lawful-refuse _ _
-  lawful-term (for_all at vs u) env = lawful-refuse _ _
-  lawful-term (there_exists at vs u) env = lawful-refuse _ _
-  lawful-term (match_with at u cs) env = lawful-refuse _ _
-  lawful-term (annotated at u ns) env = lawful-refuse _ _
-
-  lawful-terms : (ts : Terms) (env : Environment) → Lawful (judge_terms env ts)
-  lawful-terms no_terms env = lawful-done _
-  lawful-terms (with_term t ts) env = lawful-then _ _ (lawful-term t env) (λ u. lawful-terms ts env)
+lawful-params : (before : List ℕ) (ps : List Tok) → Lawful (judge_params before ps)
+lawful-params before [] = lawful-done _
+lawful-params before (p ∷ ps) = lawful-then _ _ (lawful-check _ _ _ (is_false _)) (λ u. lawful-params (before ++ p.name ∷ []) ps)
 
 lawful-parts : (env : Environment) (c : Command) → Lawful (judge_parts env c)
-lawful-parts env (assert t) = lawful-term t env
-lawful-parts env (declare_const n s) = lawful-then _ _ (lawful-check _ _ _ (is_false (is_known env n.name))) (λ u. lawful-sort s env)
+lawful-parts env (assert t) = lawful-then _ _ (lawful-term _ _ _ t) (λ s. lawful-then _ _ (lawful-check _ _ _ (test_decided (is_bool s))) (λ u. lawful-done _))
+lawful-parts env (declare_const n s) =
+    lawful-then _ _ (lawful-check _ _ _ (is_false _)) (λ u. lawful-then _ _ (lawful-sort _ _ _ _ s) (λ result. lawful-done _))
+lawful-parts env (declare_fun n ss s) =
+    lawful-then _ _ (lawful-check _ _ _ (is_false _)) (λ u. lawful-then _ _ (lawful-sorts _ _ _ _ ss) (λ args. lawful-then _ _ (lawful-sort _ _ _ _ s) (λ result. lawful-done _)))
+lawful-parts env (declare_sort n a) =
+    lawful-then _ _ (lawful-check _ _ _ (is_false _)) (λ u. lawful-then _ _ (lawful-check _ _ _ (at_most _ _)) (λ v. lawful-done _))
+lawful-parts env (define_sort n ps s) =
+    lawful-then _ _ (lawful-check _ _ _ (is_false _)) (λ u. lawful-then _ _ (lawful-params [] ps) (λ v. lawful-then _ _ (lawful-sort _ _ _ _ s) (λ body. lawful-done _)))
+lawful-parts env (set_logic n) = lawful-done _
+lawful-parts env (set_option a) = lawful-done _
+lawful-parts env (push n) = lawful-done _
+lawful-parts env (pop n) = lawful-done _
+lawful-parts env reset = lawful-done _
+lawful-parts env reset_assertions = lawful-done _
 lawful-parts env c = lawful-done _
 
 lawful-command : (env : Environment) (at : ℕ) (c : Command) → Lawful (judge_command env at c)
-lawful-command env at c =
-    lawful-then _ _ (lawful-form at c) (λ u. lawful-then _ _ (lawful-mode env at c) (λ v. lawful-then _ _ (lawful-parts env c) (λ w. lawful-done _)))
+lawful-command env at c = lawful-then _ _ (lawful-form at c) (λ u. lawful-then _ _ (lawful-mode env at c) (λ v. lawful-parts env c))
 
 pub lawful-tree : (env : Environment) (t : Sexp Tok) → Lawful (judge_tree env t)
-lawful-tree env t = lawful-then _ _ (lawful-answered (read_command t)) (λ c. lawful-then _ _ (lawful-command env _ c) (λ e. lawful-done _))
+lawful-tree env t = lawful-then _ _ (lawful-grammar t) (λ c. lawful-then _ _ (lawful-command env _ c) (λ e. lawful-done _))
 
 lawful-list : (env : Environment) (t : Sexp Token) → Lawful (judge_list env t)
 lawful-list env t = lawful-tree (with_names env t) (numbered_sexp (with_names env t).names t)

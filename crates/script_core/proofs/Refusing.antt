@@ -72,13 +72,13 @@ pub fault_refuses : (bytes : List ℕ) (ended : Bool) (tokens : List Token) (c :
     → Refuses bytes ended (record { command = c.count + 1; at = place.at; rule = place.code })
 fault_refuses bytes ended tokens c place has f = record {
   fault = Some place;
-  rest = Unfinished (texts_of c.names c.builder.0);
+  rest = Unfinished (texts_of c.scope.world.names c.builder.0);
   run = all_of f.commands (environment_of f.names c.scope);
   judged = record {
     tokens = tokens;
     lists = f.lists;
     has_tokens = has;
-    has_lists = AllRead (texts_of c.names c.builder.0) f.reads;
+    has_lists = AllRead (texts_of c.scope.world.names c.builder.0) f.reads;
     runs = f.runs;
   };
   number = ap (λ (n : ℕ). n + 1) f.counted;
@@ -140,4 +140,4 @@ few_tokens bytes tokens (Some p) h =
 
 pub few_unfinished : (known : List (List ℕ)) (tokens : List Token) (c : Checker) → Follows known tokens c → length c.builder.0 ≤ length tokens
 few_unfinished known tokens c f =
-    omega (arith, length-unfinished (flat_tokens tokens) f.lists (texts_of c.names c.builder.0) f.reads, length-map c.builder.0 (map_flat (token_of c.names)), length-flat_tokens tokens)
+    omega (arith, length-unfinished (flat_tokens tokens) f.lists (texts_of c.scope.world.names c.builder.0) f.reads, length-map c.builder.0 (map_flat (token_of c.scope.world.names)), length-flat_tokens tokens)

@@ -1,25 +1,35 @@
 -- What the rules answer as functions is what the relation of the rules says.
-use Rattle.std.proofs.Common.{◌≡◌, ℕ, Bool, true, false, not, ◌&&◌, ◌==◌, List, [], length, Option, Some, None, Result, Ok, Err, IsTrue, refl, ap, sym, ◌∙◌, subst, inl, inr, codes}
+use Rattle.std.proofs.Common.{◌≡◌, ℕ, ◌+◌, ◌≤◌, nat_le, Bool, true, false, not, ◌&&◌, ◌==◌, ◌<◌, List, [], ◌∷◌, ◌++◌, length, Option, Some, None, Result, Ok, Err, IsTrue, refl, ap, sym, ◌∙◌, subst, inl, inr, codes}
 use Rattle.std.specs.Prelude.{slice_get}
-use Rattle.std.proofs.lemmas.Bool.{false≢true}
+use Rattle.std.proofs.lemmas.Bool.{false≢true, le-leb, leb-true}
 use Rattle.std.proofs.lemmas.Slice.Eq.{bytes_eq-Decides}
 use Rattle.lex_core.specs.declared.place.Place.{Place}
 use Rattle.lex_core.specs.declared.token.Tok.{Tok}
 use Rattle.sig_table.specs.declared.code.Code.{Code}
 use Rattle.sig_table.specs.declared.code.Code.TheVariants as code
-use Rattle.sexp_core.specs.Sexp.{Sexp}
-use Rattle.judgement.specs.Judging.{Judging, ◌>>=◌, check, done, ill_sorted, refuse, well_sorted}
+use Rattle.sexp_core.specs.Sexp.{FlatToken, Opening, Closing, Word, Sexp, atom, list, Sexps, cons, flat, flat_all}
+use Rattle.judgement.specs.Judging.{Judging, Outcome, ◌>>=◌, check, ill_sorted, well_sorted}
 use Rattle.term_grammar.specs.declared.words.TheConstants.{GLOBAL_DECLARATIONS}
 use Rattle.term_grammar.specs.Reads.{byte_of}
-use Rattle.term_grammar.specs.Syntax.{symbol, indexed, Sort, named_sort, applied_sort, Sorts, no_sorts, with_sort, Qualified, unqualified, qualified, qualified_at, Term, constant, qualified_term, application, let_in, for_all, there_exists, match_with, annotated, Terms, no_terms, with_term, each_term}
-use Rattle.cmd_grammar.specs.Commands.{Command, assert, declare_const, echo, exit, get_info, get_option, set_info, set_logic, set_option}
+use Rattle.term_grammar.specs.Syntax.{Qualified, unqualified, qualified, qualified_at, Term, constant, qualified_term, application, let_in, for_all, there_exists, match_with, annotated, Terms, no_terms, with_term}
+use Rattle.cmd_grammar.specs.Commands.{Command, assert, declare_const, declare_fun, declare_sort, define_sort, echo, exit, get_info, get_option, pop, push, reset, set_info, set_logic, set_option}
 use Rattle.cmd_grammar.specs.CommandReads.{read_command}
+use Rattle.cmd_grammar.specs.Grammar.{ReadsCommand}
+use Rattle.cmd_grammar.proofs.GrammarAgrees.{found_fault, found_reads}
+use Rattle.cmd_grammar.specs.CommandAnswers.{Answers as ReadAnswers}
+use Rattle.cmd_grammar.specs.declared.command.GrError.{GrError}
+use Rattle.cmd_grammar.specs.declared.command.GrError.TheVariants as grammar
+use Rattle.typer.specs.Declarations.{depth}
 use Rattle.script_core.specs.declared.refusal.Progress.{Progress}
 use Rattle.script_core.specs.declared.refusal.Progress.TheVariants as progress
-use Rattle.script_core.specs.Checking.{TakesTree}
+use Rattle.script_core.specs.declared.scope.StepError.{StepError}
+use Rattle.script_core.specs.declared.scope.StepError.TheVariants as error
+use Rattle.script_core.specs.Checking.{AnswersTree, TakesTree}
+use Rattle.script_core.specs.Effects.{AnswersParts, IsDeclaredNamed}
 use Rattle.script_core.specs.Environment.{Environment, HasText}
-use Rattle.script_core.specs.RuleAnswers.{Answer, answer_all_built, answer_application, answer_built, answer_command, answer_form, answer_head, answer_mode, answer_parts, answer_sort, answer_sorts, answer_term, answer_terms, both, fault, has_this_text, is_text, test}
-use Rattle.script_core.specs.Rules.{attribute_key, effect, has_rank, is_built, is_known, judge_all_built, judge_application, judge_built, judge_command, judge_form, judge_head, judge_mode, judge_parts, judge_sort, judge_sorts, judge_term, judge_terms}
+use Rattle.script_core.specs.Interned.{AreInterned}
+use Rattle.script_core.specs.RuleAnswers.{Answer, answer_all_built, answer_built, answer_form, answer_head, answer_mode, both, has_this_text, is_text, test}
+use Rattle.script_core.specs.Rules.{attribute_key, is_built, judge_all_built, judge_built, judge_command, judge_form, judge_head, judge_mode, judge_parts, value_of}
 use Rattle.script_core.specs.SessionState.{progress_of}
 use Rattle.script_core.specs.Steps.{is_exit, judge_tree}
 
@@ -44,6 +54,9 @@ is_met b rule at = test_met (IsTrue b) b rule at (λ e. e) (λ e h. false≢true
 not_met : (b : Bool) (rule : Code) (at : ℕ) → IsMet (check (b ≡ false) rule at) (test (not b) rule at)
 not_met true rule at = ((λ e. false≢true (sym e)), refl)
 not_met false rule at = (refl, refl)
+
+most_met : (m n : ℕ) (rule : Code) (at : ℕ) → IsMet (check (m ≤ n) rule at) (test (nat_le m n) rule at)
+most_met m n rule at = test_met (m ≤ n) (nat_le m n) rule at (leb-true m n) (λ e h. false≢true (sym e ∙ le-leb m n h))
 
 is_this_text : (o : Option (List ℕ)) (text : List ℕ) → is_text o text ≡ true → o ≡ Some text
 is_this_text None text e = absurd (false≢true e)
@@ -90,74 +103,48 @@ mode_met env at (set_info a) = (refl, refl)
 mode_met env at (get_option k) = (refl, refl)
 mode_met env at (get_info k) = (refl, refl)
 mode_met env at (echo t) = (refl, refl)
+mode_met env at reset = (refl, refl)
 mode_met env at exit = (refl, refl)
+mode_met env at (push n) =
+    then_met (check (IsTrue env.logic) code.LogicNotSet at) (check (depth env.declarations + value_of env n ≤ 65535) code.TooManyLevels at)
+    (test env.logic code.LogicNotSet at) (test (nat_le (depth env.declarations + value_of env n) 65535) code.TooManyLevels at)
+    (is_met env.logic code.LogicNotSet at) (most_met (depth env.declarations + value_of env n) 65535 code.TooManyLevels at)
+mode_met env at (pop n) =
+    then_met (check (IsTrue env.logic) code.LogicNotSet at) (check (value_of env n ≤ depth env.declarations) code.TooFewLevels at)
+    (test env.logic code.LogicNotSet at) (test (nat_le (value_of env n) (depth env.declarations)) code.TooFewLevels at)
+    (is_met env.logic code.LogicNotSet at) (most_met (value_of env n) (depth env.declarations) code.TooFewLevels at)
 mode_met env at c = is_met env.logic code.LogicNotSet at
 
-mutual
-  sort_met : (env : Environment) (s : Sort) → IsMet (judge_sort env s) (answer_sort env s)
-  sort_met env (named_sort (symbol n)) = text_met env n (codes "Bool") code.UnknownSort n.at
-  sort_met env (named_sort (indexed at n is)) = refl
-  sort_met env (applied_sort at i ss) = then_met (judge_sorts env ss) (refuse code.UnknownSort at) (answer_sorts env ss) (fault code.UnknownSort at) (sorts_met env ss) refl
+-- the tree is read as no command
+pub tree_no_command : (env : Environment) (t : Sexp Tok) (e : GrError) (p : Place) → e ≡ grammar.Fault p → ReadAnswers t (Err e) → judge_tree env t [] (ill_sorted p)
+tree_no_command env t e p is h = inl (found_fault t p (subst (λ (x : GrError). ReadAnswers t (Err x)) is h))
 
-  sorts_met : (env : Environment) (ss : Sorts) → IsMet (judge_sorts env ss) (answer_sorts env ss)
-  sorts_met env no_sorts = (refl, refl)
-  sorts_met env (with_sort s ss) = then_met (judge_sort env s) (judge_sorts env ss) (answer_sort env s) (answer_sorts env ss) (sort_met env s) (sorts_met env ss)
-
-application_met : (env : Environment) (at : ℕ) (q : Qualified) (count : ℕ) → IsMet (judge_application env at q count) (answer_application env at q count)
-application_met env at (unqualified (symbol s)) count =
-    then_met (check (IsTrue (is_known env s.name)) code.UnknownFunction at) (check (IsTrue (has_rank s.name count)) code.NoRank at)
-    (test (is_known env s.name) code.UnknownFunction at) (test (has_rank s.name count) code.NoRank at)
-    (is_met (is_known env s.name) code.UnknownFunction at) (is_met (has_rank s.name count) code.NoRank at)
-application_met env at (unqualified (indexed b n is)) count = refl
-application_met env at (qualified b i s) count = refl
-
-mutual
-  term_met : (env : Environment) (t : Term) → IsMet (judge_term env t) (answer_term env t)
-  term_met env (constant c) = refl
-  term_met env (qualified_term q) = application_met env (qualified_at q) q 0
-  term_met env (application at q ts) = then_met (judge_terms env ts) (judge_application env at q (length (each_term ts))) (answer_terms env ts) (answer_application env at q (length (each_term ts))) (terms_met env ts) (application_met env at q (length (each_term ts)))
-  term_met env (let_in at bs u) = refl
-  term_met env (for_all at vs u) = refl
-  term_met env (there_exists at vs u) = refl
-  term_met env (match_with at u cs) = refl
-  term_met env (annotated at u ns) = refl
-
-  terms_met : (env : Environment) (ts : Terms) → IsMet (judge_terms env ts) (answer_terms env ts)
-  terms_met env no_terms = (refl, refl)
-  terms_met env (with_term t ts) = then_met (judge_term env t) (judge_terms env ts) (answer_term env t) (answer_terms env ts) (term_met env t) (terms_met env ts)
-
-parts_met : (env : Environment) (c : Command) → IsMet (judge_parts env c) (answer_parts env c)
-parts_met env (assert t) = term_met env t
-parts_met env (declare_const n s) =
-    then_met (check (is_known env n.name ≡ false) code.FunctionNameInUse n.at) (judge_sort env s) (test (not (is_known env n.name)) code.FunctionNameInUse n.at) (answer_sort env s)
-    (not_met (is_known env n.name) code.FunctionNameInUse n.at) (sort_met env s)
-parts_met env c = (refl, refl)
-
--- three judgements, and then a value
-all_met : (I J K : Judging (Unit {0})) (q r s : Answer) (e : Environment) → IsMet I q → IsMet J r → IsMet K s
-    → (both q (both r s) ≡ Ok tt → (I >>= λ u. J >>= λ v. K >>= λ w. done e) [] (well_sorted e []))
-    × ((p : Place) → both q (both r s) ≡ Err p → (I >>= λ u. J >>= λ v. K >>= λ w. done e) [] (ill_sorted p))
-all_met I J K (Ok u) (Ok v) (Ok w) e i j k = ((λ same. (tt, [], i, (tt, [], j, (tt, [], k, (refl, refl))))), λ p same. cc)
-all_met I J K (Ok u) (Ok v) (Err x) e i j k = ((λ same. cc), λ p same. let h : x ≡ p = cc in inr (tt, [], i, inr (tt, [], j, inl (subst (λ (y : Place). K [] (ill_sorted y)) h k))))
-all_met I J K (Ok u) (Err x) s e i j k = ((λ same. cc), λ p same. let h : x ≡ p = cc in inr (tt, [], i, inl (subst (λ (y : Place). J [] (ill_sorted y)) h j)))
-all_met I J K (Err x) r s e i j k = ((λ same. cc), λ p same. let h : x ≡ p = cc in inl (subst (λ (y : Place). I [] (ill_sorted y)) h i))
-
-command_met : (env : Environment) (at : ℕ) (c : Command)
-    → (answer_command env at c ≡ Ok tt → judge_command env at c [] (well_sorted (effect env c) []))
-    × ((p : Place) → answer_command env at c ≡ Err p → judge_command env at c [] (ill_sorted p))
-command_met env at c =
-    all_met (judge_form at c) (judge_mode env at c) (judge_parts env c) (answer_form at c) (answer_mode env at c) (answer_parts env c) (effect env c) (form_met at c) (mode_met env at c) (parts_met env c)
-
--- the tree is read as a command that breaks a rule
-pub tree_broken : (env : Environment) (t : Sexp Tok) (c : Command) (at : ℕ) (p : Place) → read_command t ≡ Ok c → at ≡ byte_of t → answer_command env at c ≡ Err p → judge_tree env t [] (ill_sorted p)
+-- the tree is read as a command whose form or mode breaks a rule
+pub tree_broken : (env : Environment) (t : Sexp Tok) (c : Command) (at : ℕ) (p : Place) → read_command t ≡ Ok c → at ≡ byte_of t → both (answer_form at c) (answer_mode env at c) ≡ Err p
+    → judge_tree env t [] (ill_sorted p)
 tree_broken env t c at p read here says =
-    inr (c, [], (read, refl), inl ((command_met env (byte_of t) c).1 p (subst (λ (n : ℕ). answer_command env n c ≡ Err p) here says)))
+    inr (
+      c,
+      [],
+      (found_reads t c read, refl),
+      inl (first_broken (judge_form (byte_of t) c) (judge_mode env (byte_of t) c) (judge_parts env c) (answer_form (byte_of t) c) (answer_mode env (byte_of t) c) p
+          (form_met (byte_of t) c) (mode_met env (byte_of t) c) (subst (λ (n : ℕ). both (answer_form n c) (answer_mode env n c) ≡ Err p) here says)),
+    )
+  where
+    first_broken : (I J : Judging (Unit {0})) (K : Judging Environment) (r s : Answer) (p : Place) → IsMet I r → IsMet J s → both r s ≡ Err p → (I >>= λ u. J >>= λ v. K) [] (ill_sorted p)
+    first_broken I J K (Ok u) (Ok v) p i j e = cc
+    first_broken I J K (Ok u) (Err x) p i j e = let h : x ≡ p = cc in inr (tt, [], i, inl (subst (λ (y : Place). J [] (ill_sorted y)) h j))
+    first_broken I J K (Err x) s p i j e = let h : x ≡ p = cc in inl (subst (λ (y : Place). I [] (ill_sorted y)) h i)
 
-tree_taken : (env new : Environment) (t : Sexp Tok) (c : Command) (at : ℕ) → read_command t ≡ Ok c → at ≡ byte_of t → answer_command env at c ≡ Ok tt → new ≡ effect env c
-    → judge_tree env t [] (well_sorted (c, new) [])
-tree_taken env new t c at read here says leads =
-    let judged : judge_command env (byte_of t) c [] (well_sorted (effect env c) []) = (command_met env (byte_of t) c).0 (subst (λ (n : ℕ). answer_command env n c ≡ Ok tt) here says) in
-    (c, [], (read, refl), (new, [], subst (λ (e : Environment). judge_command env (byte_of t) c [] (well_sorted e [])) (sym leads) judged, (refl, refl)))
+-- the form and the mode of the command are right
+command_after : (env : Environment) (at : ℕ) (c : Command) (o : Outcome Environment) → both (answer_form at c) (answer_mode env at c) ≡ Ok tt → judge_parts env c [] o → judge_command env at c [] o
+command_after env at c o says parts = met (judge_form at c) (judge_mode env at c) (judge_parts env c) (answer_form at c) (answer_mode env at c) o (form_met at c) (mode_met env at c) says parts
+  where
+    met : (I J : Judging (Unit {0})) (K : Judging Environment) (r s : Answer) (o : Outcome Environment) → IsMet I r → IsMet J s → both r s ≡ Ok tt → K [] o → (I >>= λ u. J >>= λ v. K) [] o
+    met I J K (Ok u) (Ok v) (well_sorted x after) i j e k = (tt, [], i, (tt, [], j, k))
+    met I J K (Ok u) (Ok v) (ill_sorted p) i j e k = inr (tt, [], i, inr (tt, [], j, k))
+    met I J K (Ok u) (Err x) o i j e k = cc
+    met I J K (Err x) s o i j e k = cc
 
 same_progress : (b : Bool) → progress.More ≡ progress_of b → b ≡ false
 same_progress true e = cc
@@ -167,8 +154,41 @@ same_end : (b : Bool) → progress.Ended ≡ progress_of b → b ≡ true
 same_end true e = refl
 same_end false e = cc
 
--- the tree is read as a command, which is accepted
-pub tree_takes : (env new : Environment) (t : Sexp Tok) (c : Command) (at : ℕ) (p : Progress) → read_command t ≡ Ok c → at ≡ byte_of t → answer_command env at c ≡ Ok tt → new ≡ effect env c
-    → p ≡ progress_of (is_exit c) → TakesTree env t p new
-tree_takes env new t c at progress.More read here says leads e = (c, [], tree_taken env new t c at read here says leads, same_progress (is_exit c) e)
-tree_takes env new t c at progress.Ended read here says leads e = (c, [], tree_taken env new t c at read here says leads, same_end (is_exit c) e)
+-- the tree is read as a command, which leads to a new environment
+pub tree_takes : (env new : Environment) (t : Sexp Tok) (c : Command) (at : ℕ) (p : Progress) → read_command t ≡ Ok c → at ≡ byte_of t → both (answer_form at c) (answer_mode env at c) ≡ Ok tt
+    → judge_parts env c [] (well_sorted new []) → p ≡ progress_of (is_exit c) → TakesTree env t p new
+tree_takes env new t c at p read here says parts = takes p
+  where
+    judged : judge_command env (byte_of t) c [] (well_sorted new [])
+    judged = command_after env (byte_of t) c (well_sorted new []) (subst (λ (n : ℕ). both (answer_form n c) (answer_mode env n c) ≡ Ok tt) here says) parts
+
+    tree : judge_tree env t [] (well_sorted (c, new) [])
+    tree = (c, [], (found_reads t c read, refl), (new, [], judged, (refl, refl)))
+
+    takes : (p : Progress) → p ≡ progress_of (is_exit c) → TakesTree env t p new
+    takes progress.More e = (c, [], tree, same_progress (is_exit c) e)
+    takes progress.Ended e = (c, [], tree, same_end (is_exit c) e)
+
+-- the tree is read as a command, whose parts break a rule or want memory
+pub tree_refused : (env new : Environment) (t : Sexp Tok) (c : Command) (at : ℕ) (e : StepError) → read_command t ≡ Ok c → at ≡ byte_of t → both (answer_form at c) (answer_mode env at c) ≡ Ok tt
+    → AnswersParts env c (Err e) new → AnswersTree env t (Err e) new
+tree_refused env new t c at error.NoMemory read here says parts = tt
+tree_refused env new t c at (error.Broken p) read here says parts =
+    inr (c, [], (found_reads t c read, refl), inl (command_after env (byte_of t) c (ill_sorted p) (subst (λ (n : ℕ). both (answer_form n c) (answer_mode env n c) ≡ Ok tt) here says) parts))
+
+second_interned : (texts : List (List ℕ)) (at : ℕ) (a b : Tok) (rest : List (FlatToken Tok)) → AreInterned texts (Opening at ∷ Word a ∷ Word b ∷ rest) → b.name < length texts
+second_interned texts at a b rest (x, (y, z)) = y
+
+-- the name that a command declares is one of its tree
+name_begun : (texts : List (List ℕ)) (t : Sexp Tok) (at : ℕ) (w n : Tok) (ts : Sexps Tok) → AreInterned texts (flat t) → t ≡ list at (cons (atom w) (cons (atom n) ts)) → n.name < length texts
+name_begun texts t at w n ts h e = second_interned texts at w n (flat_all ts ++ Closing ∷ []) (subst (λ (x : Sexp Tok). AreInterned texts (flat x)) e h)
+
+declared_named : (texts : List (List ℕ)) (t : Sexp Tok) (c : Command) → AreInterned texts (flat t) → ReadsCommand t c → IsDeclaredNamed texts c
+declared_named texts t (declare_const n s) h r = name_begun texts t r.1.0 r.1.1 n _ h r.1.2
+declared_named texts t (declare_fun n ss s) h r = name_begun texts t r.3.0 r.3.1 n _ h r.3.2
+declared_named texts t (declare_sort n a) h r = name_begun texts t r.0.0 r.0.1 n _ h r.0.2
+declared_named texts t (define_sort n ps s) h r = name_begun texts t r.2.0 r.2.1 n _ h r.2.2
+declared_named texts t c h r = tt
+
+pub command_named : (texts : List (List ℕ)) (t : Sexp Tok) (c : Command) → AreInterned texts (flat t) → read_command t ≡ Ok c → IsDeclaredNamed texts c
+command_named texts t c h read = declared_named texts t c h (found_reads t c read)

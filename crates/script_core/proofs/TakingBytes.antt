@@ -25,42 +25,38 @@ use Rattle.script_core.specs.declared.refusal.Stop.TheVariants.{Refused, NoMemor
 use Rattle.script_core.specs.Acceptance.{Refuses}
 use Rattle.script_core.specs.Checking.{Awaits, BreaksAmong, BreaksWithin, Exits, ExitsByte, ExitsWithin, HasExited, HasTaken, HasTokensOf, IfEnded, IfMore, IfRefused, RefusesByte, RefusesText, SofarCount, TakesByte, TakesTokens, environment_of, texts_of}
 use Rattle.script_core.specs.Text.{AllRead, Faulty, GoesOn, HasTokens, Unfinished, Whole}
-use Rattle.script_core.proofs.FollowingTokens.{follows_grown}
+use Rattle.script_core.proofs.FollowingTokens.{follows_grown, lexed}
 use Rattle.script_core.proofs.NameTables.{AddNames, add_names_front, first_there, gained_names, option_there, take_option}
 use Rattle.script_core.proofs.PlainTokens.{lexed_add, read_adds, shown_add}
 use Rattle.script_core.proofs.Refusing.{exits_in, fault_refuses, few_tokens, few_unfinished, refuses_among}
 use Rattle.script_core.proofs.Running.{all_of}
 use Rattle.script_core.proofs.TextTokens.{fault_stays, state_complete, tokens_from}
 
--- the checker once the lexer has taken the byte
-abbrev pub lexed : Checker → List (List ℕ) → Option LexerState → Checker
-lexed c names lexer = record c { names = names; lexer = lexer }
-
 -- the tokens that come are awaited
-awaited : (tokens next : List Token) (c : Checker) (names : List (List ℕ)) (lexer : Option LexerState) → KeepsTexts c.names names → IsNameTable c.names → IsNameTable names → AddNames (tokens ++ next)
-    → ((t : Token) (ts : List Token) → next ≡ t ∷ ts → list_any (bytes_eq t.name) names ≡ true) → GainsNameOf c.names names next → HasTokensOf tokens c
+awaited : (tokens next : List Token) (c : Checker) (names : List (List ℕ)) (lexer : Option LexerState) → KeepsTexts c.scope.world.names names → IsNameTable c.scope.world.names → IsNameTable names → AddNames (tokens ++ next)
+    → ((t : Token) (ts : List Token) → next ≡ t ∷ ts → list_any (bytes_eq t.name) names ≡ true) → GainsNameOf c.scope.world.names names next → HasTokensOf tokens c
     → Awaits tokens (take 1 next) (lexed c names lexer)
 awaited tokens next c names lexer keeps was is adds there gain f = record {
-  known = c.names;
-  follows = follows_grown c.names tokens c names lexer (extends_once c.names names keeps) f;
-  names = gained_names c.names names next was is (add_names_front tokens next adds) there gain;
+  known = c.scope.world.names;
+  follows = follows_grown c.scope.world.names tokens c names lexer (extends_once c.scope.world.names names keeps) f;
+  names = gained_names c.scope.world.names names next was is (add_names_front tokens next adds) there gain;
 }
 
 pub awaits_fed : (bytes : List ℕ) (c : Checker) (byte : ℕ) (fed : Fed) (names : List (List ℕ)) (lexer : Option LexerState) → HasTaken bytes c → ReadsByte c.lexer byte (fed_tokens names fed) lexer
-    → KeepsTexts c.names names → IsNameTable names → GainsNameOf c.names names (fed_tokens names fed) → IsInterned names fed.first → IsInterned names fed.second
+    → KeepsTexts c.scope.world.names names → IsNameTable names → GainsNameOf c.scope.world.names names (fed_tokens names fed) → IsInterned names fed.first → IsInterned names fed.second
     → (tokens : List Token) → HasTokensOf tokens c → HasRead bytes tokens c.lexer → Awaits tokens (take 1 (fed_tokens names fed)) (lexed c names lexer)
 awaits_fed bytes c byte fed names lexer h reads keeps table gain first second tokens f read =
     awaited tokens (fed_tokens names fed) c names lexer keeps h.table table (read_adds (bytes ++ byte ∷ []) (tokens ++ fed_tokens names fed) lexer (reads bytes tokens read)) (first_there names fed first second) gain f
 
 pub awaits_before : (bytes : List ℕ) (c : Checker) (byte : ℕ) (before : Option Tok) (place : Place) (names : List (List ℕ)) (lexer : Option LexerState) → HasTaken bytes c
-    → FaultsAtByte c.lexer byte (option_tokens names before) place → KeepsTexts c.names names → IsNameTable names → GainsNameOf c.names names (option_tokens names before) → IsInterned names before
+    → FaultsAtByte c.lexer byte (option_tokens names before) place → KeepsTexts c.scope.world.names names → IsNameTable names → GainsNameOf c.scope.world.names names (option_tokens names before) → IsInterned names before
     → (tokens : List Token) → HasTokensOf tokens c → HasRead bytes tokens c.lexer → Awaits tokens (option_tokens names before) (lexed c names lexer)
 awaits_before bytes c byte before place names lexer h faults keeps table gain interned tokens f read =
     subst (λ (ts : List Token). Awaits tokens ts (lexed c names lexer)) (take_option names before)
     (awaited tokens (option_tokens names before) c names lexer keeps h.table table (shown_add (bytes ++ byte ∷ []) (tokens ++ option_tokens names before) false place.at place.code (faults bytes tokens read)) (option_there names before interned) gain f)
 
 pub awaits_left : (bytes : List ℕ) (c : Checker) (left : Option Tok) (names : List (List ℕ)) (lexer : Option LexerState) → HasTaken bytes c
-    → LexesAtEnd c.lexer (option_tokens names left) → KeepsTexts c.names names → IsNameTable names → GainsNameOf c.names names (option_tokens names left) → IsInterned names left
+    → LexesAtEnd c.lexer (option_tokens names left) → KeepsTexts c.scope.world.names names → IsNameTable names → GainsNameOf c.scope.world.names names (option_tokens names left) → IsInterned names left
     → (tokens : List Token) → HasTokensOf tokens c → HasRead bytes tokens c.lexer → Awaits tokens (option_tokens names left) (lexed c names lexer)
 awaits_left bytes c left names lexer h lexes keeps table gain interned tokens f read =
     subst (λ (ts : List Token). Awaits tokens ts (lexed c names lexer)) (take_option names left)
@@ -72,9 +68,9 @@ few_names old new n keeps few = omega (arith, ap length keeps.2, keeps.1, few, l
 -- what the lexer says of the tokens of one byte
 pub record Feeds (c : Checker) (byte : ℕ) (fed : Fed) (names : List (List ℕ)) (lexer : Option LexerState) : Type 0 where
   pub reads : ReadsByte c.lexer byte (fed_tokens names fed) lexer
-  pub keeps : KeepsTexts c.names names
+  pub keeps : KeepsTexts c.scope.world.names names
   pub table : IsNameTable names
-  pub gain : GainsNameOf c.names names (fed_tokens names fed)
+  pub gain : GainsNameOf c.scope.world.names names (fed_tokens names fed)
   pub first : IsInterned names fed.first
   pub second : IsInterned names fed.second
 
@@ -84,7 +80,7 @@ fed_awaited bytes c byte fed names lexer h l = awaits_fed bytes c byte fed names
 
 -- the byte was taken
 pub byte_taken : (c n : Checker) (byte : ℕ) (fed : Fed) (names : List (List ℕ)) (lexer : Option LexerState) (r : Result Progress Stop) → Feeds c byte fed names lexer
-    → IfMore r (TakesTokens (lexed c names lexer) (take 1 (fed_tokens names fed)) (fed_tokens names fed) n) → n.names ≡ names → n.lexer ≡ lexer → n.count ≤ c.count + 2
+    → IfMore r (TakesTokens (lexed c names lexer) (take 1 (fed_tokens names fed)) (fed_tokens names fed) n) → n.scope.world.names ≡ names → n.lexer ≡ lexer → n.count ≤ c.count + 2
     → IfMore r (TakesByte c byte n)
 byte_taken c n byte fed names lexer (Err stop) l more same_names same_lexer count = tt
 byte_taken c n byte fed names lexer (Ok progress.Ended) l more same_names same_lexer count = tt
@@ -93,7 +89,7 @@ byte_taken c n byte fed names lexer (Ok progress.More) l more same_names same_le
   read = subst (λ (x : Option LexerState). HasRead (bytes ++ byte ∷ []) (h.tokens ++ fed_tokens names fed) x) (sym same_lexer) (l.reads bytes h.tokens h.read);
   follows = more h.tokens (fed_awaited bytes c byte fed names lexer h l);
   table = subst IsNameTable (sym same_names) l.table;
-  few_names = omega (arith, few_names c.names names (length bytes) l.keeps h.few_names, ap length same_names, length-append bytes (byte ∷ []));
+  few_names = omega (arith, few_names c.scope.world.names names (length bytes) l.keeps h.few_names, ap length same_names, length-append bytes (byte ∷ []));
   few_commands = omega (arith, h.few_commands, count, length-append bytes (byte ∷ []));
 }
 
@@ -128,9 +124,9 @@ byte_refused c byte fed names lexer (Err (Refused refusal)) l broken = λ bytes 
 -- what the lexer says of a byte that breaks the lexicon
 pub record Faults (c : Checker) (byte : ℕ) (before : Option Tok) (place : Place) (names : List (List ℕ)) : Type 0 where
   pub faults : FaultsAtByte c.lexer byte (option_tokens names before) place
-  pub keeps : KeepsTexts c.names names
+  pub keeps : KeepsTexts c.scope.world.names names
   pub table : IsNameTable names
-  pub gain : GainsNameOf c.names names (option_tokens names before)
+  pub gain : GainsNameOf c.scope.world.names names (option_tokens names before)
   pub interned : IsInterned names before
 
 pub before_awaited : (bytes : List ℕ) (c : Checker) (byte : ℕ) (before : Option Tok) (place : Place) (names : List (List ℕ)) (lexer : Option LexerState) (h : HasTaken bytes c) → Faults c byte before place names
@@ -176,13 +172,13 @@ taken_sofar bytes c h = record {
   commands = h.follows.commands;
   sofar = record {
     fault = None;
-    rest = Unfinished (texts_of c.names c.builder.0);
+    rest = Unfinished (texts_of c.scope.world.names c.builder.0);
     run = all_of h.follows.commands (environment_of h.follows.names c.scope);
     judged = record {
       tokens = h.tokens;
       lists = h.follows.lists;
       has_tokens = complete c.lexer h.read;
-      has_lists = AllRead (texts_of c.names c.builder.0) h.follows.reads;
+      has_lists = AllRead (texts_of c.scope.world.names c.builder.0) h.follows.reads;
       runs = h.follows.runs;
     };
     accepted = refl;
@@ -198,9 +194,9 @@ taken_sofar bytes c h = record {
 -- what the lexer says of the end
 pub record Lefts (c : Checker) (left : Option Tok) (names : List (List ℕ)) : Type 0 where
   pub lexes : LexesAtEnd c.lexer (option_tokens names left)
-  pub keeps : KeepsTexts c.names names
+  pub keeps : KeepsTexts c.scope.world.names names
   pub table : IsNameTable names
-  pub gain : GainsNameOf c.names names (option_tokens names left)
+  pub gain : GainsNameOf c.scope.world.names names (option_tokens names left)
   pub interned : IsInterned names left
 
 pub left_awaited : (bytes : List ℕ) (c : Checker) (left : Option Tok) (names : List (List ℕ)) (lexer : Option LexerState) (h : HasTaken bytes c) → Lefts c left names
@@ -226,7 +222,7 @@ end_accepted c n names lexer left l ok closed bytes h =
           tokens = h.tokens ++ option_tokens names left;
           lists = f.lists;
           has_tokens = Whole (l.lexes bytes h.tokens h.read);
-          has_lists = AllRead [] (subst (λ (u : List (FlatToken Tok)). Reads (flat_tokens (h.tokens ++ option_tokens names left)) f.lists (texts_of n.names u)) closed f.reads);
+          has_lists = AllRead [] (subst (λ (u : List (FlatToken Tok)). Reads (flat_tokens (h.tokens ++ option_tokens names left)) f.lists (texts_of n.scope.world.names u)) closed f.reads);
           runs = f.runs;
         };
         accepted = refl;
@@ -256,17 +252,17 @@ pub open_refused : (c n : Checker) (names : List (List ℕ)) (lexer : Option Lex
 open_refused c n names lexer left place stop l ok unclosed says = rw says (λ bytes h.
     let f = ok h.tokens (left_awaited bytes c left names lexer h l) in record {
       fault = None;
-      rest = Unfinished (texts_of n.names n.builder.0);
+      rest = Unfinished (texts_of n.scope.world.names n.builder.0);
       run = all_of f.commands (environment_of f.names n.scope);
       judged = record {
         tokens = h.tokens ++ option_tokens names left;
         lists = f.lists;
         has_tokens = Whole (l.lexes bytes h.tokens h.read);
-        has_lists = AllRead (texts_of n.names n.builder.0) f.reads;
+        has_lists = AllRead (texts_of n.scope.world.names n.builder.0) f.reads;
         runs = f.runs;
       };
       number = ap (λ (m : ℕ). m + 1) f.counted;
-      first_fault = (unclosed-map (token_of n.names) n.builder.0 place.at unclosed.1, unclosed.0);
+      first_fault = (unclosed-map (token_of n.scope.world.names) n.builder.0 place.at unclosed.1, unclosed.0);
     })
 
 -- the text ends in a lexeme that lacks its end
@@ -276,4 +272,4 @@ end_refused c place stop faults says = rw says (λ bytes h. fault_refuses bytes 
 
 -- what a checker keeps of the tokens is no longer than the text
 pub short_builder : (bytes : List ℕ) (c : Checker) → HasTaken bytes c → length c.builder.0 ≤ length bytes
-short_builder bytes c h = omega (arith, few_unfinished c.names h.tokens c h.follows, few_tokens bytes h.tokens c.lexer h.read)
+short_builder bytes c h = omega (arith, few_unfinished c.scope.world.names h.tokens c h.follows, few_tokens bytes h.tokens c.lexer h.read)

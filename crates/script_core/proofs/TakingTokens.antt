@@ -23,9 +23,10 @@ use Rattle.script_core.specs.declared.refusal.Progress.TheVariants as progress
 use Rattle.script_core.specs.declared.refusal.Refusal.{Refusal}
 use Rattle.script_core.specs.declared.refusal.Stop.{Stop}
 use Rattle.script_core.specs.declared.refusal.Stop.TheVariants.{Refused, NoMemory}
-use Rattle.script_core.specs.Checking.{Awaits, BreaksAmong, BreaksTree, BreaksWith, BreaksWithin, Exits, ExitsWithin, HasTokensOf, IfEnded, IfMore, IfRefused, TakesTokens, TakesTree, TokenBreaks, environment_of}
+use Rattle.script_core.specs.Checking.{Awaits, BreaksAmong, BreaksTree, BreaksWith, BreaksWithin, Exits, ExitsWithin, HasTokensOf, IfEnded, IfMore, IfRefused, IsReadyCore, TakesTokens, TakesTree, TokenBreaks, environment_of}
+use Rattle.script_core.specs.Interned.{AreInterned}
 use Rattle.script_core.specs.Numbering.{table_after}
-use Rattle.script_core.proofs.FollowingTokens.{breaks_command, breaks_lists, exits_list, follows_inside, follows_list}
+use Rattle.script_core.proofs.FollowingTokens.{breaks_command, breaks_lists, exits_list, follows_inside, follows_list, interned_last}
 use Rattle.script_core.proofs.NameTables.{name_in_table}
 
 some_of : {A : Type 0} (P : A → Type 0) (o : Option A) (t : A) → o ≡ Some t → IfSome o P → P t
@@ -35,36 +36,42 @@ some_of {A} P o t e h = subst (λ (x : Option A). IfSome x P) e h
 abbrev pub IsTaken : Checker → Tok → Sexp Tok → Type 0
 IsTaken c tok t = IsList t × (flat t ≡ c.builder.0 ++ flat_tok tok ∷ [])
 
-pub taken_inside : (tokens : List Token) (c : Checker) (tok : Tok) (new : State) (o : Option (Sexp Tok)) → Awaits tokens (token_of c.names tok ∷ []) c → tok.name < length c.names → o ≡ None → IsUnfinished new.0
+-- the names of the tree are in the table
+pub tree_interned : (c : Checker) (tok : Tok) (o : Option (Sexp Tok)) (t : Sexp Tok) → tok.name < length c.scope.world.names → AreInterned c.scope.world.names c.builder.0 → o ≡ Some t → IfSome o (IsTaken c tok)
+    → AreInterned c.scope.world.names (flat t)
+tree_interned c tok o t named interned e tree =
+    rw ((some_of (IsTaken c tok) o t e tree).1) (interned_last c.scope.world.names c.builder.0 tok interned named)
+
+pub taken_inside : (tokens : List Token) (c : Checker) (tok : Tok) (new : State) (o : Option (Sexp Tok)) → Awaits tokens (token_of c.scope.world.names tok ∷ []) c → tok.name < length c.scope.world.names → o ≡ None → IsUnfinished new.0
     → (c.builder.1 ≡ None → ◌≡◌ {A = Result (Option (Sexp Tok)) SexpError} (Ok o) (Ok None) → new ≡ (c.builder.0 ++ flat_tok tok ∷ [], None))
     → (c.builder.1 ≡ None → (rule : Code) → TreeFault c.builder.0 (flat_tok tok) rule → ◌≡◌ {A = Result (Option (Sexp Tok)) SexpError} (Ok o) (Err (fault_at rule tok.at)))
-    → HasTokensOf (tokens ++ token_of c.names tok ∷ []) (record c { builder = new })
+    → HasTokensOf (tokens ++ token_of c.scope.world.names tok ∷ []) (record c { builder = new })
 taken_inside tokens c tok new o w named e unfinished inside faulty =
     follows_inside tokens c tok new w named (inside w.follows.no_error (ap Ok e)) unfinished (λ rule h. let bad = faulty w.follows.no_error rule h in cc)
 
-pub taken_list : (c n : Checker) (tok : Tok) (o : Option (Sexp Tok)) (t : Sexp Tok) (builder : State) (r : Result Progress Stop) → IsNameTable c.names → tok.name < length c.names
+pub taken_list : (c n : Checker) (tok : Tok) (o : Option (Sexp Tok)) (t : Sexp Tok) (builder : State) (r : Result Progress Stop) → IsNameTable c.scope.world.names → tok.name < length c.scope.world.names
     → o ≡ Some t → (c.builder.1 ≡ None → IfSome o (IsTaken c tok))
-    → (c.builder.1 ≡ None → IfSome o (λ x. builder ≡ ([], None))) → n.builder ≡ builder → n.names ≡ c.names
-    → IfOk r (λ p. TakesTree (environment_of c.names c.scope) t p (environment_of c.names n.scope)) → OnOk r (n.count ≡ c.count + 1)
-    → IfMore r (TakesTokens c (token_of c.names tok ∷ []) (token_of c.names tok ∷ []) n)
-taken_list c n tok o t builder (Err stop) table named e tree emptied same names steps counted = tt
-taken_list c n tok o t builder (Ok progress.Ended) table named e tree emptied same names steps counted = tt
-taken_list c n tok o t builder (Ok progress.More) table named e tree emptied same names steps counted = λ tokens w.
+    → (c.builder.1 ≡ None → IfSome o (λ x. builder ≡ ([], None))) → n.builder ≡ builder → n.scope.world.names ≡ c.scope.world.names
+    → IfOk r (λ p. TakesTree (environment_of c.scope.world.names c.scope) t p (environment_of c.scope.world.names n.scope)) → OnOk r (n.count ≡ c.count + 1) → OnOk r (IsReadyCore n.scope.world)
+    → IfMore r (TakesTokens c (token_of c.scope.world.names tok ∷ []) (token_of c.scope.world.names tok ∷ []) n)
+taken_list c n tok o t builder (Err stop) table named e tree emptied same names steps counted stands = tt
+taken_list c n tok o t builder (Ok progress.Ended) table named e tree emptied same names steps counted stands = tt
+taken_list c n tok o t builder (Ok progress.More) table named e tree emptied same names steps counted stands = λ tokens w.
     let taken = some_of (IsTaken c tok) o t e (tree w.follows.no_error) in
-    follows_list tokens c n tok t w table named taken.0 taken.1 (same ∙ some_of (λ (x : Sexp Tok). builder ≡ ([], None)) o t e (emptied w.follows.no_error)) names steps counted
+    follows_list tokens c n tok t w table named taken.0 taken.1 (same ∙ some_of (λ (x : Sexp Tok). builder ≡ ([], None)) o t e (emptied w.follows.no_error)) names steps counted stands
 
-pub ended_list : (c n : Checker) (tok : Tok) (o : Option (Sexp Tok)) (t : Sexp Tok) (r : Result Progress Stop) → IsNameTable c.names → tok.name < length c.names
+pub ended_list : (c n : Checker) (tok : Tok) (o : Option (Sexp Tok)) (t : Sexp Tok) (r : Result Progress Stop) → IsNameTable c.scope.world.names → tok.name < length c.scope.world.names
     → o ≡ Some t → (c.builder.1 ≡ None → IfSome o (IsTaken c tok))
-    → IfOk r (λ p. TakesTree (environment_of c.names c.scope) t p (environment_of c.names n.scope)) → OnOk r (n.count ≡ c.count + 1)
-    → IfEnded r (ExitsWithin c (token_of c.names tok ∷ []) (token_of c.names tok ∷ []) n.count)
+    → IfOk r (λ p. TakesTree (environment_of c.scope.world.names c.scope) t p (environment_of c.scope.world.names n.scope)) → OnOk r (n.count ≡ c.count + 1)
+    → IfEnded r (ExitsWithin c (token_of c.scope.world.names tok ∷ []) (token_of c.scope.world.names tok ∷ []) n.count)
 ended_list c n tok o t (Err stop) table named e tree steps counted = tt
 ended_list c n tok o t (Ok progress.More) table named e tree steps counted = tt
 ended_list c n tok o t (Ok progress.Ended) table named e tree steps counted = λ tokens w.
     let taken = some_of (IsTaken c tok) o t e (tree w.follows.no_error) in exits_list tokens c n tok t w table named taken.0 taken.1 steps counted
 
-pub refused_list : (c : Checker) (tok : Tok) (o : Option (Sexp Tok)) (t : Sexp Tok) (r : Result Progress Stop) → IsNameTable c.names → tok.name < length c.names
+pub refused_list : (c : Checker) (tok : Tok) (o : Option (Sexp Tok)) (t : Sexp Tok) (r : Result Progress Stop) → IsNameTable c.scope.world.names → tok.name < length c.scope.world.names
     → o ≡ Some t → (c.builder.1 ≡ None → IfSome o (IsTaken c tok))
-    → IfErr r (λ e. IfRefused e (BreaksTree c t)) → IfErr r (λ e. IfRefused e (BreaksWith c (token_of c.names tok)))
+    → IfErr r (λ e. IfRefused e (BreaksTree c t)) → IfErr r (λ e. IfRefused e (BreaksWith c (token_of c.scope.world.names tok)))
 refused_list c tok o t (Ok u) table named e tree h = tt
 refused_list c tok o t (Err NoMemory) table named e tree h = tt
 refused_list c tok o t (Err (Refused refusal)) table named e tree h = λ tokens w.
@@ -72,7 +79,7 @@ refused_list c tok o t (Err (Refused refusal)) table named e tree h = λ tokens 
 
 pub broken_token : (c : Checker) (tok : Tok) (e : SexpError) (place : Place) (stop : Stop) → e ≡ error.Fault place → (c.builder.1 ≡ None → IsTreeError c.builder.0 (flat_tok tok) tok.at e)
     → stop ≡ Refused (record { command = c.count + 1; at = place.at; rule = place.code })
-    → IfRefused stop (BreaksWith c (token_of c.names tok))
+    → IfRefused stop (BreaksWith c (token_of c.scope.world.names tok))
 broken_token c tok e place stop is fault says = rw says (λ tokens w.
     let broken = subst (λ (x : SexpError). IsTreeError c.builder.0 (flat_tok tok) tok.at x) is (fault w.follows.no_error) in breaks_lists tokens c tok place.code place.at w broken.0 broken.1)
 
@@ -112,26 +119,26 @@ known_option texts None h = refl
 known_option texts (Some tok) h = known_kind texts tok.kind tok.at (token_of texts tok) (name_in_table texts tok h)
 
 -- the second token of a byte is awaited where the first was taken
-awaits_second : (tokens : List Token) (m : Checker) (o : Option Tok) → HasTokensOf tokens m → IsInterned m.names o → Awaits tokens (option_tokens m.names o) m
-awaits_second tokens m o f h = record { known = m.names; follows = f; names = known_option m.names o h }
+awaits_second : (tokens : List Token) (m : Checker) (o : Option Tok) → HasTokensOf tokens m → IsInterned m.scope.world.names o → Awaits tokens (option_tokens m.scope.world.names o) m
+awaits_second tokens m o f h = record { known = m.scope.world.names; follows = f; names = known_option m.scope.world.names o h }
 
-pub awaits_second_of : (c m : Checker) (a : Tok) (o : Option Tok) (tokens : List Token) → TakesTokens c (token_of c.names a ∷ []) (token_of c.names a ∷ []) m → m.names ≡ c.names → IsInterned c.names o
-    → Awaits tokens (token_of c.names a ∷ []) c → Awaits (tokens ++ token_of c.names a ∷ []) (option_tokens m.names o) m
-awaits_second_of c m a o tokens first same h w = awaits_second (tokens ++ token_of c.names a ∷ []) m o (first tokens w) (subst (λ (ns : List (List ℕ)). IsInterned ns o) (sym same) h)
+pub awaits_second_of : (c m : Checker) (a : Tok) (o : Option Tok) (tokens : List Token) → TakesTokens c (token_of c.scope.world.names a ∷ []) (token_of c.scope.world.names a ∷ []) m → m.scope.world.names ≡ c.scope.world.names → IsInterned c.scope.world.names o
+    → Awaits tokens (token_of c.scope.world.names a ∷ []) c → Awaits (tokens ++ token_of c.scope.world.names a ∷ []) (option_tokens m.scope.world.names o) m
+awaits_second_of c m a o tokens first same h w = awaits_second (tokens ++ token_of c.scope.world.names a ∷ []) m o (first tokens w) (subst (λ (ns : List (List ℕ)). IsInterned ns o) (sym same) h)
 
-second_after : (c m : Checker) (a : Tok) (o : Option Tok) (tokens : List Token) → TakesTokens c (token_of c.names a ∷ []) (token_of c.names a ∷ []) m → m.names ≡ c.names → IsInterned c.names o
-    → Awaits tokens (token_of c.names a ∷ []) c → Awaits (tokens ++ token_of c.names a ∷ []) (option_tokens c.names o) m
+second_after : (c m : Checker) (a : Tok) (o : Option Tok) (tokens : List Token) → TakesTokens c (token_of c.scope.world.names a ∷ []) (token_of c.scope.world.names a ∷ []) m → m.scope.world.names ≡ c.scope.world.names → IsInterned c.scope.world.names o
+    → Awaits tokens (token_of c.scope.world.names a ∷ []) c → Awaits (tokens ++ token_of c.scope.world.names a ∷ []) (option_tokens c.scope.world.names o) m
 second_after c m a o tokens first same h w =
-    subst (λ (ns : List (List ℕ)). Awaits (tokens ++ token_of c.names a ∷ []) (option_tokens ns o) m) same (awaits_second_of c m a o tokens first same h w)
+    subst (λ (ns : List (List ℕ)). Awaits (tokens ++ token_of c.scope.world.names a ∷ []) (option_tokens ns o) m) same (awaits_second_of c m a o tokens first same h w)
 
 -- the two tokens of a byte
-pub fed_more : (c m n : Checker) (a : Tok) (o : Option Tok) (r : Result Progress Stop) → TakesTokens c (token_of c.names a ∷ []) (token_of c.names a ∷ []) m → m.names ≡ c.names → IsInterned c.names o
-    → IfMore r (TakesTokens m (option_tokens m.names o) (option_tokens m.names o) n) → IfMore r (TakesTokens c (token_of c.names a ∷ []) (token_of c.names a ∷ option_tokens c.names o) n)
+pub fed_more : (c m n : Checker) (a : Tok) (o : Option Tok) (r : Result Progress Stop) → TakesTokens c (token_of c.scope.world.names a ∷ []) (token_of c.scope.world.names a ∷ []) m → m.scope.world.names ≡ c.scope.world.names → IsInterned c.scope.world.names o
+    → IfMore r (TakesTokens m (option_tokens m.scope.world.names o) (option_tokens m.scope.world.names o) n) → IfMore r (TakesTokens c (token_of c.scope.world.names a ∷ []) (token_of c.scope.world.names a ∷ option_tokens c.scope.world.names o) n)
 fed_more c m n a o (Err stop) first same h second = tt
 fed_more c m n a o (Ok progress.Ended) first same h second = tt
 fed_more c m n a o (Ok progress.More) first same h second = λ tokens w.
-    subst (λ (ts : List Token). HasTokensOf ts n) (append_assoc tokens (token_of c.names a ∷ []) (option_tokens c.names o))
-    (subst (λ (ns : List (List ℕ)). TakesTokens m (option_tokens ns o) (option_tokens ns o) n) same second (tokens ++ token_of c.names a ∷ []) (second_after c m a o tokens first same h w))
+    subst (λ (ts : List Token). HasTokensOf ts n) (append_assoc tokens (token_of c.scope.world.names a ∷ []) (option_tokens c.scope.world.names o))
+    (subst (λ (ns : List (List ℕ)). TakesTokens m (option_tokens ns o) (option_tokens ns o) n) same second (tokens ++ token_of c.scope.world.names a ∷ []) (second_after c m a o tokens first same h w))
 
 -- an `exit` among the first tokens is one among more
 pub exits_more : (tokens more : List Token) (count : ℕ) → Exits tokens count → Exits (tokens ++ more) count
@@ -147,34 +154,34 @@ exits_more tokens more count x = record {
   counted = x.counted;
 }
 
-pub fed_ends : (c m : Checker) (a : Tok) (o : Option Tok) (r : Result Progress Stop) (count : ℕ) → TakesTokens c (token_of c.names a ∷ []) (token_of c.names a ∷ []) m → m.names ≡ c.names → IsInterned c.names o
-    → IfEnded r (ExitsWithin m (option_tokens m.names o) (option_tokens m.names o) count) → IfEnded r (ExitsWithin c (token_of c.names a ∷ []) (token_of c.names a ∷ option_tokens c.names o) count)
+pub fed_ends : (c m : Checker) (a : Tok) (o : Option Tok) (r : Result Progress Stop) (count : ℕ) → TakesTokens c (token_of c.scope.world.names a ∷ []) (token_of c.scope.world.names a ∷ []) m → m.scope.world.names ≡ c.scope.world.names → IsInterned c.scope.world.names o
+    → IfEnded r (ExitsWithin m (option_tokens m.scope.world.names o) (option_tokens m.scope.world.names o) count) → IfEnded r (ExitsWithin c (token_of c.scope.world.names a ∷ []) (token_of c.scope.world.names a ∷ option_tokens c.scope.world.names o) count)
 fed_ends c m a o (Err stop) count first same h second = tt
 fed_ends c m a o (Ok progress.More) count first same h second = tt
 fed_ends c m a o (Ok progress.Ended) count first same h second = λ tokens w.
-    subst (λ (ts : List Token). Exits ts count) (append_assoc tokens (token_of c.names a ∷ []) (option_tokens c.names o))
-    (subst (λ (ns : List (List ℕ)). ExitsWithin m (option_tokens ns o) (option_tokens ns o) count) same second (tokens ++ token_of c.names a ∷ []) (second_after c m a o tokens first same h w))
+    subst (λ (ts : List Token). Exits ts count) (append_assoc tokens (token_of c.scope.world.names a ∷ []) (option_tokens c.scope.world.names o))
+    (subst (λ (ns : List (List ℕ)). ExitsWithin m (option_tokens ns o) (option_tokens ns o) count) same second (tokens ++ token_of c.scope.world.names a ∷ []) (second_after c m a o tokens first same h w))
 
-pub first_ends : (c : Checker) (a : Tok) (o : Option Tok) (count : ℕ) → ExitsWithin c (token_of c.names a ∷ []) (token_of c.names a ∷ []) count
-    → ExitsWithin c (token_of c.names a ∷ []) (token_of c.names a ∷ option_tokens c.names o) count
+pub first_ends : (c : Checker) (a : Tok) (o : Option Tok) (count : ℕ) → ExitsWithin c (token_of c.scope.world.names a ∷ []) (token_of c.scope.world.names a ∷ []) count
+    → ExitsWithin c (token_of c.scope.world.names a ∷ []) (token_of c.scope.world.names a ∷ option_tokens c.scope.world.names o) count
 first_ends c a o count first tokens w =
-    subst (λ (ts : List Token). Exits ts count) (append_assoc tokens (token_of c.names a ∷ []) (option_tokens c.names o))
-    (exits_more (tokens ++ token_of c.names a ∷ []) (option_tokens c.names o) count (first tokens w))
+    subst (λ (ts : List Token). Exits ts count) (append_assoc tokens (token_of c.scope.world.names a ∷ []) (option_tokens c.scope.world.names o))
+    (exits_more (tokens ++ token_of c.scope.world.names a ∷ []) (option_tokens c.scope.world.names o) count (first tokens w))
 
-pub first_breaks : (c : Checker) (a : Tok) (o : Option Tok) (e : Stop) → IfRefused e (BreaksWith c (token_of c.names a))
-    → IfRefused e (BreaksWithin c (token_of c.names a ∷ []) (token_of c.names a ∷ option_tokens c.names o))
+pub first_breaks : (c : Checker) (a : Tok) (o : Option Tok) (e : Stop) → IfRefused e (BreaksWith c (token_of c.scope.world.names a))
+    → IfRefused e (BreaksWithin c (token_of c.scope.world.names a ∷ []) (token_of c.scope.world.names a ∷ option_tokens c.scope.world.names o))
 first_breaks c a o NoMemory h = tt
 first_breaks c a o (Refused refusal) h = λ tokens w.
-    record { front = []; next = token_of c.names a; back = option_tokens c.names o; spelled = refl; breaks = subst (λ (ts : List Token). TokenBreaks ts (token_of c.names a) refusal) (sym (append-nil tokens)) (h tokens w) }
+    record { front = []; next = token_of c.scope.world.names a; back = option_tokens c.scope.world.names o; spelled = refl; breaks = subst (λ (ts : List Token). TokenBreaks ts (token_of c.scope.world.names a) refusal) (sym (append-nil tokens)) (h tokens w) }
 
-pub second_breaks : (c m : Checker) (a : Tok) (o : Option Tok) (r : Result Progress Stop) → TakesTokens c (token_of c.names a ∷ []) (token_of c.names a ∷ []) m → m.names ≡ c.names → IsInterned c.names o
-    → IfErr r (λ e. IfRefused e (BreaksWithin m (option_tokens m.names o) (option_tokens m.names o)))
-    → IfErr r (λ e. IfRefused e (BreaksWithin c (token_of c.names a ∷ []) (token_of c.names a ∷ option_tokens c.names o)))
+pub second_breaks : (c m : Checker) (a : Tok) (o : Option Tok) (r : Result Progress Stop) → TakesTokens c (token_of c.scope.world.names a ∷ []) (token_of c.scope.world.names a ∷ []) m → m.scope.world.names ≡ c.scope.world.names → IsInterned c.scope.world.names o
+    → IfErr r (λ e. IfRefused e (BreaksWithin m (option_tokens m.scope.world.names o) (option_tokens m.scope.world.names o)))
+    → IfErr r (λ e. IfRefused e (BreaksWithin c (token_of c.scope.world.names a ∷ []) (token_of c.scope.world.names a ∷ option_tokens c.scope.world.names o)))
 second_breaks c m a o (Ok u) first same h second = tt
 second_breaks c m a o (Err NoMemory) first same h second = tt
 second_breaks c m a o (Err (Refused refusal)) first same h second = λ tokens w.
-    among_second tokens (token_of c.names a ∷ []) (option_tokens c.names o) refusal
-    (subst (λ (ns : List (List ℕ)). BreaksWithin m (option_tokens ns o) (option_tokens ns o) refusal) same second (tokens ++ token_of c.names a ∷ []) (second_after c m a o tokens first same h w))
+    among_second tokens (token_of c.scope.world.names a ∷ []) (option_tokens c.scope.world.names o) refusal
+    (subst (λ (ns : List (List ℕ)). BreaksWithin m (option_tokens ns o) (option_tokens ns o) refusal) same second (tokens ++ token_of c.scope.world.names a ∷ []) (second_after c m a o tokens first same h w))
 
 -- the tokens of a byte whose first is this one
 first_is : (names : List (List ℕ)) (fed : Fed) (a : Tok) → fed.first ≡ Some a → fed_tokens names fed ≡ token_of names a ∷ option_tokens names fed.second

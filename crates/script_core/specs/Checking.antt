@@ -9,6 +9,9 @@ use Rattle.sexp_core.specs.Sexp.{FlatToken, Sexp, flat, map_flat}
 use Rattle.sexp_core.specs.Tokens.{flat_token, flat_tokens}
 use Rattle.cmd_grammar.specs.Commands.{Command}
 use Rattle.judgement.specs.Judging.{ill_sorted, well_sorted}
+use Rattle.typer.specs.Declarations.{declarations_of}
+use Rattle.typer.specs.Ready.{IsReady}
+use Rattle.typer.specs.declared.world.World.{World}
 use Rattle.script_core.specs.declared.checker.Checker.{Checker}
 use Rattle.script_core.specs.declared.refusal.Progress.{Progress}
 use Rattle.script_core.specs.declared.refusal.Progress.TheVariants as progress
@@ -19,7 +22,7 @@ use Rattle.script_core.specs.declared.scope.Scope.{Scope}
 use Rattle.script_core.specs.declared.scope.StepError.{StepError}
 use Rattle.script_core.specs.declared.scope.StepError.TheVariants as error
 use Rattle.script_core.specs.Acceptance.{Refuses, Sofar, place_of}
-use Rattle.script_core.specs.Environment.{Environment, start}
+use Rattle.script_core.specs.Environment.{Environment, core_alone, start}
 use Rattle.script_core.specs.Interned.{AreInterned}
 use Rattle.script_core.specs.Numbering.{table_after}
 use Rattle.script_core.specs.Steps.{all_taken, exited, ListFault, Run, Runs, is_exit, judge_tree}
@@ -30,7 +33,12 @@ texts_of texts tokens = map (map_flat (token_of texts)) tokens
 
 -- what a scope keeps of an environment
 abbrev pub environment_of : List (List ℕ) → Scope → Environment
-environment_of names scope = record { names = names; logic = scope.logic; declared = scope.declared.items }
+environment_of names scope = record { names = names; logic = scope.logic; declarations = declarations_of scope.world.scopes; next = scope.next }
+
+-- the world meets what the rules of sorts ask of it, and Core is its only theory
+pub record IsReadyCore (world : World) : Type 0 where
+  pub ready : IsReady world
+  pub core : world.theories ≡ core_alone
 
 -- The checker has taken these tokens, whose names are in the table `known`: their complete lists are accepted, and it keeps the
 -- tokens of the unfinished one. Its own table may have the name of the next token besides.
@@ -39,16 +47,18 @@ pub record Follows (known : List (List ℕ)) (tokens : List Token) (checker : Ch
   pub commands : List Command
   -- the names after the complete lists
   pub names : List (List ℕ)
-  pub reads : Reads (flat_tokens tokens) lists (texts_of checker.names checker.builder.0)
+  pub reads : Reads (flat_tokens tokens) lists (texts_of checker.scope.world.names checker.builder.0)
   pub no_error : checker.builder.1 ≡ None
   pub runs : Runs start lists (record { commands = commands; env = environment_of names checker.scope; cause = all_taken })
   pub counted : checker.count ≡ length commands
-  pub interned : AreInterned checker.names checker.builder.0
-  pub table : known ≡ table_after names (texts_of checker.names checker.builder.0)
+  pub interned : AreInterned checker.scope.world.names checker.builder.0
+  pub table : known ≡ table_after names (texts_of checker.scope.world.names checker.builder.0)
+  pub ready : IsReady checker.scope.world
+  pub core : checker.scope.world.theories ≡ core_alone
 
 -- the checker has taken these tokens, and its table has their names alone
 abbrev pub HasTokensOf : List Token → Checker → Type 0
-HasTokensOf tokens checker = Follows checker.names tokens checker
+HasTokensOf tokens checker = Follows checker.scope.world.names tokens checker
 
 -- the complete lists of these tokens begin with lists that are commands, the last of them `exit`
 pub record Exits (tokens : List Token) (count : ℕ) : Type 0 where
@@ -92,8 +102,8 @@ pub record HasTaken (bytes : List ℕ) (checker : Checker) : Type 0 where
   pub tokens : List Token
   pub read : HasRead bytes tokens checker.lexer
   pub follows : HasTokensOf tokens checker
-  pub table : IsNameTable checker.names
-  pub few_names : length checker.names ≤ 57 + length bytes
+  pub table : IsNameTable checker.scope.world.names
+  pub few_names : length checker.scope.world.names ≤ 57 + length bytes
   pub few_commands : checker.count ≤ 2 * length bytes
 
 -- the text is accepted so far, with this number of commands
@@ -110,7 +120,7 @@ HasExited bytes count = (more : List ℕ) (ended : Bool) → SofarCount (bytes +
 pub record Awaits (tokens next : List Token) (checker : Checker) : Type 0 where
   pub known : List (List ℕ)
   pub follows : Follows known tokens checker
-  pub names : checker.names ≡ table_after known (flat_tokens next)
+  pub names : checker.scope.world.names ≡ table_after known (flat_tokens next)
 
 -- the fact holds where the script goes on, or where an `exit` was accepted
 abbrev pub IfMore : Result Progress Stop → Type 0 → Type 0
@@ -179,4 +189,4 @@ AnswersTree old t (Err error.NoMemory) new = Unit {0}
 
 -- the tree breaks a rule, as the next command
 abbrev pub BreaksTree : Checker → Sexp Tok → Refusal → Type 0
-BreaksTree old t refusal = judge_tree (environment_of old.names old.scope) t [] (ill_sorted (place_of refusal)) × (refusal.command ≡ old.count + 1)
+BreaksTree old t refusal = judge_tree (environment_of old.scope.world.names old.scope) t [] (ill_sorted (place_of refusal)) × (refusal.command ≡ old.count + 1)

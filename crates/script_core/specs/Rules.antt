@@ -1,32 +1,33 @@
 -- The rules of the commands that are built (SMT-LIB 2.6, sections 3.9 and 4.2): for each command the checks in their order,
 -- and the environment that it leads to.
-use Rattle.std.specs.Prelude.{List, ◌≡◌, ℕ, ◌==◌, nat_lt, Bool, true, false, ◌&&◌, ◌||◌, [], ◌∷◌, ◌++◌, length, IsTrue, codes, if◌then◌else◌}
+use Rattle.std.specs.Prelude.{◌≡◌, ℕ, ◌+◌, ◌<◌, ◌≤◌, ◌^◌, ◌==◌, Bool, true, false, ◌&&◌, List, [], ◌∷◌, ◌++◌, length, map, IsTrue, codes, slice_index_or, if◌then◌else◌}
 use Rattle.std.specs.List.{list_any}
 use Rattle.lex_core.specs.declared.token.Tok.{Tok}
 use Rattle.sig_table.specs.declared.code.Code.TheVariants as code
+use Rattle.sexp_core.specs.Sexp.{Sexp, atom, list}
 use Rattle.judgement.specs.Judging.{Judging, ◌>>=◌, check, done, refuse}
-use Rattle.term_grammar.specs.declared.words.TheConstants.{FALSE, GLOBAL_DECLARATIONS, NOT, TRUE}
-use Rattle.term_grammar.specs.Syntax.{symbol, indexed, Sort, named_sort, applied_sort, Sorts, no_sorts, with_sort, Qualified, unqualified, qualified, qualified_at, Attribute, keyword_attribute, valued_attribute, Term, constant, qualified_term, application, let_in, for_all, there_exists, match_with, annotated, Terms, no_terms, with_term, each_term}
+use Rattle.sort_store.specs.declared.head.Head.TheVariants as head
+use Rattle.sort_store.specs.Tree as tree
+use Rattle.scope_stack.specs.declared.entry.FunKind.TheVariants as kind
+use Rattle.term_grammar.specs.declared.words.TheConstants.{GLOBAL_DECLARATIONS, TRUE}
+use Rattle.term_grammar.specs.Syntax.{Qualified, unqualified, qualified, qualified_at, Attribute, keyword_attribute, valued_attribute, Term, constant, qualified_term, application, let_in, for_all, there_exists, match_with, annotated, Terms, no_terms, with_term, term_at}
 use Rattle.cmd_grammar.specs.Commands.{Command, assert, check_sat_assuming, declare_const, declare_datatype, declare_datatypes, declare_fun, declare_sort, define_fun, define_fun_rec, define_funs_rec, define_sort, echo, exit, get_info, get_option, get_value, pop, push, reset, reset_assertions, set_info, set_logic, set_option}
-use Rattle.script_core.specs.declared.scope.TheConstants.{AND}
-use Rattle.script_core.specs.Environment.{Environment, HasText}
+use Rattle.typer.specs.Numerals.{numeral_value}
+use Rattle.typer.specs.Declarations.{depth, free_sort, defined_sort, with_fun, with_global, with_popped, with_pushed, with_sort, without_assertions}
+use Rattle.typer.specs.SortRules.{judge_sort, judge_sorts}
+use Rattle.typer.specs.TermRules.{judge_term}
+use Rattle.typer.specs.FunctionSymbols.{is_fun_in_use, is_sort_in_use}
+use Rattle.script_core.specs.Environment.{Environment, HasText, core_alone, start}
 
 -- the commands that are built
 abbrev pub is_built : Command → Bool
 is_built (check_sat_assuming ls) = false
 is_built (declare_datatype n d) = false
 is_built (declare_datatypes ss ds) = false
-is_built (declare_fun n ss s) = false
-is_built (declare_sort n a) = false
 is_built (define_fun f) = false
 is_built (define_fun_rec f) = false
 is_built (define_funs_rec fs ts) = false
-is_built (define_sort n ps s) = false
 is_built (get_value ts) = false
-is_built (pop n) = false
-is_built (push n) = false
-is_built reset = false
-is_built reset_assertions = false
 is_built command = true
 
 -- The productions of terms that are built are the constant, the identifier, and the application of an identifier. The first
@@ -63,8 +64,12 @@ abbrev pub attribute_key : Attribute → Tok
 attribute_key (keyword_attribute k) = k
 attribute_key (valued_attribute k v) = k
 
+-- the value of a numeral in the text
+abbrev pub value_of : Environment → Tok → ℕ
+value_of env n = numeral_value (slice_index_or env.names n.name [])
+
 -- Whether the command may stand here. The commands that may stand before the logic is set are set-logic, set-option, set-info,
--- get-option, get-info, echo and exit.
+-- get-option, get-info, echo, reset and exit. At most 65,535 levels are open.
 abbrev pub judge_mode : Environment → ℕ → Command → Judging (Unit {0})
 judge_mode env at (set_logic n) = do
   _ ← check (env.logic ≡ false) code.LogicAlreadySet at
@@ -74,84 +79,88 @@ judge_mode env at (set_info a) = done tt
 judge_mode env at (get_option k) = done tt
 judge_mode env at (get_info k) = done tt
 judge_mode env at (echo t) = done tt
+judge_mode env at reset = done tt
 judge_mode env at exit = done tt
-judge_mode env at command = check (env.logic ≡ true) code.LogicNotSet at
+judge_mode env at (push n) = do
+  _ ← check (IsTrue env.logic) code.LogicNotSet at
+  check (depth env.declarations + value_of env n ≤ 65535) code.TooManyLevels at
+judge_mode env at (pop n) = do
+  _ ← check (IsTrue env.logic) code.LogicNotSet at
+  check (value_of env n ≤ depth env.declarations) code.TooFewLevels at
+judge_mode env at command = check (IsTrue env.logic) code.LogicNotSet at
 
--- a function symbol of Core that is built
-abbrev pub is_core : ℕ → Bool
-is_core n = (n == TRUE) || ((n == FALSE) || ((n == NOT) || (n == AND)))
+-- a constant or a function with these argument sorts and this result, under the next number
+abbrev pub with_function : Environment → ℕ → List tree.Sort → tree.Sort → Environment
+with_function env name args result = record env {
+  declarations = with_fun name (record { number = record { 0 = env.next }; kind = kind.Free; params = 0; args = args; result = result }) env.declarations;
+  next = env.next + 1;
+}
 
-abbrev pub is_declared : List ℕ → ℕ → Bool
-is_declared declared n = list_any (λ m. m == n) declared
+-- a declared sort of this arity, under the next number
+abbrev pub with_free_sort : Environment → ℕ → ℕ → Environment
+with_free_sort env name arity = record env { declarations = with_sort name (free_sort (record { 0 = env.next }) arity) env.declarations; next = env.next + 1 }
 
-abbrev pub is_known : Environment → ℕ → Bool
-is_known env n = is_core n || is_declared env.declared n
+-- a defined sort, which takes no number
+abbrev pub with_defined_sort : Environment → ℕ → ℕ → tree.Sort → Environment
+with_defined_sort env name count body = record env { declarations = with_sort name (defined_sort count body) env.declarations }
 
--- Of a known symbol: `not` takes one argument, `and` two or more, and the others take none. All are of sort Bool.
-abbrev pub has_rank : ℕ → ℕ → Bool
-has_rank n count = if n == NOT then count == 1 else if n == AND then nat_lt 1 count else count == 0
+-- no parameter is repeated; the later one is the fault
+abbrev pub judge_params : List ℕ → List Tok → Judging (Unit {0})
+judge_params before [] = done tt
+judge_params before (p ∷ ps) = do
+  _ ← check (list_any (λ n. n == p.name) before ≡ false) code.RepeatedVariable p.at
+  judge_params (before ++ p.name ∷ []) ps
 
--- the only sort is Bool; the arguments come before the sort itself
-abbrev mutual
-  pub judge_sort : Environment → Sort → Judging (Unit {0})
-  judge_sort env (named_sort (symbol s)) = check (HasText env s (codes "Bool")) code.UnknownSort s.at
-  judge_sort env (named_sort (indexed at n is)) = refuse code.UnknownSort at
-  judge_sort env (applied_sort at i ss) = do
-    _ ← judge_sorts env ss
-    refuse code.UnknownSort at
+-- the global flag that an option sets
+abbrev pub is_true : Sexp Tok → Bool
+is_true (atom t) = t.name == TRUE
+is_true (list at ts) = false
 
-  pub judge_sorts : Environment → Sorts → Judging (Unit {0})
-  judge_sorts env no_sorts = done tt
-  judge_sorts env (with_sort s ss) = do
-    _ ← judge_sort env s
-    judge_sorts env ss
+abbrev pub after_option : Environment → Attribute → Environment
+after_option env (keyword_attribute k) = env
+after_option env (valued_attribute k v) =
+    if k.name == GLOBAL_DECLARATIONS then record env { declarations = with_global (is_true v) env.declarations } else env
 
--- a symbol with so many arguments, all of them well sorted, in a term that begins at this byte
-abbrev pub judge_application : Environment → ℕ → Qualified → ℕ → Judging (Unit {0})
-judge_application env at (unqualified (symbol s)) count = do
-  _ ← check (IsTrue (is_known env s.name)) code.UnknownFunction at
-  check (IsTrue (has_rank s.name count)) code.NoRank at
-judge_application env at (unqualified (indexed b n is)) count = refuse code.UnknownFunction at
-judge_application env at (qualified b i s) count = refuse code.WrongTermForm at
+abbrev pub is_bool : tree.Sort → Bool
+is_bool (tree.sort head.Bool ts) = true
+is_bool s = false
 
--- The term is of sort Bool, its arguments from left to right before itself. No other sort is there.
-abbrev mutual
-  pub judge_term : Environment → Term → Judging (Unit {0})
-  judge_term env (constant c) = refuse code.LiteralWithoutSort c.at
-  judge_term env (qualified_term q) = judge_application env (qualified_at q) q 0
-  judge_term env (application at q ts) = do
-    _ ← judge_terms env ts
-    judge_application env at q (length (each_term ts))
-  judge_term env (let_in at bs u) = refuse code.WrongTermForm at
-  judge_term env (for_all at vs u) = refuse code.WrongTermForm at
-  judge_term env (there_exists at vs u) = refuse code.WrongTermForm at
-  judge_term env (match_with at u cs) = refuse code.WrongTermForm at
-  judge_term env (annotated at u ns) = refuse code.WrongTermForm at
-
-  pub judge_terms : Environment → Terms → Judging (Unit {0})
-  judge_terms env no_terms = done tt
-  judge_terms env (with_term t ts) = do
-    _ ← judge_term env t
-    judge_terms env ts
-
--- the names, sorts and terms of the command
-abbrev pub judge_parts : Environment → Command → Judging (Unit {0})
-judge_parts env (assert t) = judge_term env t
+-- The names, sorts and terms of the command, and what it leads to. A name that is in use is the first fault of a declaration.
+-- `reset` forgets all but the names and the next number, since a number is never used again.
+abbrev pub judge_parts : Environment → Command → Judging Environment
+judge_parts env (assert t) = do
+  s ← judge_term env.names env.declarations core_alone t
+  _ ← check (IsTrue (is_bool s)) code.WrongTermSort (term_at t)
+  done env
 judge_parts env (declare_const n s) = do
-  _ ← check (is_known env n.name ≡ false) code.FunctionNameInUse n.at
-  judge_sort env s
-judge_parts env command = done tt
-
--- what an accepted command leads to
-abbrev pub effect : Environment → Command → Environment
-effect env (declare_const n s) = record env { declared = env.declared ++ n.name ∷ [] }
-effect env (set_logic n) = record env { logic = true }
-effect env command = env
+  _ ← check (is_fun_in_use env.declarations n.name ≡ false) code.FunctionNameInUse n.at
+  result ← judge_sort env.names env.declarations core_alone [] s
+  done (with_function env n.name [] result)
+judge_parts env (declare_fun n ss s) = do
+  _ ← check (is_fun_in_use env.declarations n.name ≡ false) code.FunctionNameInUse n.at
+  args ← judge_sorts env.names env.declarations core_alone [] ss
+  result ← judge_sort env.names env.declarations core_alone [] s
+  done (with_function env n.name args result)
+judge_parts env (declare_sort n a) = do
+  _ ← check (is_sort_in_use env.names env.declarations core_alone n.name ≡ false) code.SortNameInUse n.at
+  _ ← check (value_of env a < 2 ^ 32) code.NumberTooLarge a.at
+  done (with_free_sort env n.name (value_of env a))
+judge_parts env (define_sort n ps s) = do
+  _ ← check (is_sort_in_use env.names env.declarations core_alone n.name ≡ false) code.SortNameInUse n.at
+  _ ← judge_params [] ps
+  body ← judge_sort env.names env.declarations core_alone (map (λ p. p.name) ps) s
+  done (with_defined_sort env n.name (length ps) body)
+judge_parts env (set_logic n) = done (record env { logic = true })
+judge_parts env (set_option a) = done (after_option env a)
+judge_parts env (push n) = done (record env { declarations = with_pushed (value_of env n) env.declarations })
+judge_parts env (pop n) = done (record env { declarations = with_popped (value_of env n) env.declarations })
+judge_parts env reset = done (record start { names = env.names; next = env.next })
+judge_parts env reset_assertions = done (record env { declarations = without_assertions env.declarations })
+judge_parts env command = done env
 
 -- the command whose list begins at this byte
 abbrev pub judge_command : Environment → ℕ → Command → Judging Environment
 judge_command env at command = do
   _ ← judge_form at command
   _ ← judge_mode env at command
-  _ ← judge_parts env command
-  done (effect env command)
+  judge_parts env command

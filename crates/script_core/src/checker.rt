@@ -4,7 +4,7 @@ ghost use Rattle.lex_core.specs.NameTable.{IsNameTable};
 ghost use Rattle.lex_core.specs.Token.{IsInterned, Token, fed_tokens, option_tokens, token_of};
 ghost use Rattle.sexp_core.specs.Sexp.{flat};
 ghost use Rattle.script_core.specs.Interned.{AreInterned};
-ghost use Rattle.script_core.specs.Checking.{Awaits, BreaksTree, BreaksWith, BreaksWithin, HasTaken, IfEnded, IfMore, IfRefused, environment_of};
+ghost use Rattle.script_core.specs.Checking.{Awaits, BreaksTree, BreaksWith, BreaksWithin, HasTaken, IfEnded, IfMore, IfRefused, IsReadyCore, environment_of};
 ghost use Rattle.script_core.specs.Checking.{AcceptsText, ExitsByte, ExitsBytes, ExitsWithin, RefusesByte, RefusesBytes, RefusesText, TakesByte, TakesBytes, TakesTokens, TakesTree};
 
 use crate::refusal::{Progress, Refusal, Stop};
@@ -13,13 +13,12 @@ use io_core::NoMemory;
 use lex_core::{Fed, LexError, Lexer, Names, Place, Tok};
 use sexp_core::{Builder, SexpError, Tree};
 use std::alloc::Global;
+use typer::World;
 
 /// Checks a text that comes byte by byte: the lexer makes tokens of the bytes, the builder lists of the tokens, and each
 /// complete list is taken as a command.
 #[derive(Drop)]
 pub struct Checker {
-    pub alloc: Global,
-    pub names: Names,
     pub lexer: Lexer,
     pub builder: Builder,
     pub scope: Scope,
@@ -39,16 +38,16 @@ impl Checker {
     pub fn new(alloc: Global) -> Result<Checker, NoMemory>
         ensures { IfOk result (λ checker. HasTaken [] checker) }
     {
-        let names = Names::new(alloc)?;
-        known_table(&names);
+        let world = World::new(alloc)?;
+        known_table(&world.names);
         Ok(Checker {
-            alloc,
-            names,
             lexer: Lexer::new(alloc),
             builder: Builder::new(alloc),
             scope: Scope {
+                world,
                 logic: false,
-                declared: Vec::new(alloc),
+                next: 0,
+                alloc,
             },
             count: 0,
         })
@@ -68,15 +67,18 @@ impl Checker {
 
     // Takes a complete list.
     fn take_list(&mut self, tree: &Tree) -> Result<Progress, Stop>
+        requires interned { AreInterned self.old.scope.world.names (flat tree.now) }
+        requires stands { IsReadyCore self.old.scope.world }
         requires few { self.old.count < 2 ^ 32 - 1 }
-        ensures ok { IfOk result (λ progress. let env = environment_of self.old.names in
+        ensures ok { IfOk result (λ progress. let env = environment_of self.old.scope.world.names in
             TakesTree (env self.old.scope) tree.now progress (env self.new.scope)) }
         ensures refused { IfErr result (λ e. IfRefused e (BreaksTree self.old tree.now)) }
+        ensures stands { OnOk result (IsReadyCore self.new.scope.world) }
         ensures counted { OnOk result (self.new.count ≡ self.old.count + 1) }
         ensures uncounted { IfErr result (λ e. self.new.count ≡ self.old.count) }
-        ensures same { (self.new.names ≡ self.old.names) × (self.new.lexer ≡ self.old.lexer) × (self.new.builder ≡ self.old.builder) }
+        ensures same { (self.new.scope.world.names ≡ self.old.scope.world.names) × (self.new.lexer ≡ self.old.lexer) × (self.new.builder ≡ self.old.builder) }
     {
-        match take_tree(self.alloc, &self.names, &mut self.scope, tree) {
+        match take_tree(&mut self.scope, tree) {
             Ok(progress) => {
                 self.count += 1;
                 Ok(progress)
@@ -88,20 +90,20 @@ impl Checker {
 
     // Takes the next token.
     fn take_token(&mut self, tok: Tok) -> Result<Progress, Stop>
-        requires awaits { (tokens : List Token) × Awaits tokens (token_of self.old.names tok ∷ []) self.old }
-        requires table { IsNameTable self.old.names }
-        requires interned { tok.name < length self.old.names }
+        requires awaits { (tokens : List Token) × Awaits tokens (token_of self.old.scope.world.names tok ∷ []) self.old }
+        requires table { IsNameTable self.old.scope.world.names }
+        requires interned { tok.name < length self.old.scope.world.names }
         requires short { length self.old.builder.0 < 2 ^ 31 }
         requires few { self.old.count < 2 ^ 32 - 1 }
-        ensures more { let next = token_of self.old.names tok in
+        ensures more { let next = token_of self.old.scope.world.names tok in
             IfMore result (TakesTokens self.old (next ∷ []) (next ∷ []) self.new) }
-        ensures ended { let next = token_of self.old.names tok in
+        ensures ended { let next = token_of self.old.scope.world.names tok in
             IfEnded result (ExitsWithin self.old (next ∷ []) (next ∷ []) self.new.count) }
-        ensures refused { IfErr result (λ e. IfRefused e (BreaksWith self.old (token_of self.old.names tok))) }
+        ensures refused { IfErr result (λ e. IfRefused e (BreaksWith self.old (token_of self.old.scope.world.names tok))) }
         ensures number { IfErr result (λ e. IfRefused e (λ refusal. refusal.command ≡ self.new.count + 1)) }
         ensures counted { self.new.count ≤ self.old.count + 1 }
         ensures longer { IfMore result (length self.new.builder.0 ≤ length self.old.builder.0 + 1) }
-        ensures same { (self.new.names ≡ self.old.names) × (self.new.lexer ≡ self.old.lexer) }
+        ensures same { (self.new.scope.world.names ≡ self.old.scope.world.names) × (self.new.lexer ≡ self.old.lexer) }
     {
         match self.builder.take(tok) {
             Ok(None) => Ok(Progress::More),
@@ -113,18 +115,18 @@ impl Checker {
 
     // Takes the next token, where there is one.
     fn take_option(&mut self, tok: Option<Tok>) -> Result<Progress, Stop>
-        requires awaits { (tokens : List Token) × Awaits tokens (option_tokens self.old.names tok) self.old }
-        requires table { IsNameTable self.old.names }
-        requires interned { IsInterned self.old.names tok }
+        requires awaits { (tokens : List Token) × Awaits tokens (option_tokens self.old.scope.world.names tok) self.old }
+        requires table { IsNameTable self.old.scope.world.names }
+        requires interned { IsInterned self.old.scope.world.names tok }
         requires short { length self.old.builder.0 < 2 ^ 31 }
         requires few { self.old.count < 2 ^ 32 - 1 }
-        ensures more { let next = option_tokens self.old.names tok in IfMore result (TakesTokens self.old next next self.new) }
-        ensures ended { let next = option_tokens self.old.names tok in IfEnded result (ExitsWithin self.old next next self.new.count) }
-        ensures refused { let next = option_tokens self.old.names tok in IfErr result (λ e. IfRefused e (BreaksWithin self.old next next)) }
+        ensures more { let next = option_tokens self.old.scope.world.names tok in IfMore result (TakesTokens self.old next next self.new) }
+        ensures ended { let next = option_tokens self.old.scope.world.names tok in IfEnded result (ExitsWithin self.old next next self.new.count) }
+        ensures refused { let next = option_tokens self.old.scope.world.names tok in IfErr result (λ e. IfRefused e (BreaksWithin self.old next next)) }
         ensures number { IfErr result (λ e. IfRefused e (λ refusal. refusal.command ≡ self.new.count + 1)) }
         ensures counted { self.new.count ≤ self.old.count + 1 }
         ensures longer { IfMore result (length self.new.builder.0 ≤ length self.old.builder.0 + 1) }
-        ensures same { (self.new.names ≡ self.old.names) × (self.new.lexer ≡ self.old.lexer) }
+        ensures same { (self.new.scope.world.names ≡ self.old.scope.world.names) × (self.new.lexer ≡ self.old.lexer) }
     {
         match tok {
             None => Ok(Progress::More),
@@ -134,18 +136,18 @@ impl Checker {
 
     // Takes the tokens that a byte completes. The table has gained the name of the first of them alone.
     fn take_fed(&mut self, fed: Fed) -> Result<Progress, Stop>
-        requires awaits { (tokens : List Token) × Awaits tokens (take 1 (fed_tokens self.old.names fed)) self.old }
-        requires table { IsNameTable self.old.names }
-        requires interned { IsInterned self.old.names fed.first × IsInterned self.old.names fed.second }
+        requires awaits { (tokens : List Token) × Awaits tokens (take 1 (fed_tokens self.old.scope.world.names fed)) self.old }
+        requires table { IsNameTable self.old.scope.world.names }
+        requires interned { IsInterned self.old.scope.world.names fed.first × IsInterned self.old.scope.world.names fed.second }
         requires short { length self.old.builder.0 + 1 < 2 ^ 31 }
         requires few { self.old.count + 1 < 2 ^ 32 - 1 }
-        ensures more { let all = fed_tokens self.old.names fed in IfMore result (TakesTokens self.old (take 1 all) all self.new) }
-        ensures ended { let all = fed_tokens self.old.names fed in IfEnded result (ExitsWithin self.old (take 1 all) all self.new.count) }
-        ensures refused { let all = fed_tokens self.old.names fed in
+        ensures more { let all = fed_tokens self.old.scope.world.names fed in IfMore result (TakesTokens self.old (take 1 all) all self.new) }
+        ensures ended { let all = fed_tokens self.old.scope.world.names fed in IfEnded result (ExitsWithin self.old (take 1 all) all self.new.count) }
+        ensures refused { let all = fed_tokens self.old.scope.world.names fed in
             IfErr result (λ e. IfRefused e (BreaksWithin self.old (take 1 all) all)) }
         ensures number { IfErr result (λ e. IfRefused e (λ refusal. refusal.command ≡ self.new.count + 1)) }
         ensures counted { self.new.count ≤ self.old.count + 2 }
-        ensures same { (self.new.names ≡ self.old.names) × (self.new.lexer ≡ self.old.lexer) }
+        ensures same { (self.new.scope.world.names ≡ self.old.scope.world.names) × (self.new.lexer ≡ self.old.lexer) }
     {
         let Fed { first, second } = fed;
         match first {
@@ -167,8 +169,8 @@ impl Checker {
         ensures refused { IfErr result (λ e. IfRefused e (RefusesByte self.old byte)) }
         ensures number { IfErr result (λ e. IfRefused e (λ refusal. refusal.command ≡ self.new.count + 1)) }
     {
-        let fed = self.lexer.feed(&mut self.names, byte);
-        known_table(&self.names);
+        let fed = self.lexer.feed(&mut self.scope.world.names, byte);
+        known_table(&self.scope.world.names);
         match fed {
             Ok(fed) => self.take_fed(fed),
             Err(LexError::NoMemory) => Err(Stop::NoMemory),
@@ -205,8 +207,8 @@ impl Checker {
         ensures refused { IfErr result (λ e. IfRefused e (RefusesText self.old)) }
         ensures number { IfErr result (λ e. IfRefused e (λ refusal. refusal.command ≡ self.new.count + 1)) }
     {
-        let left = self.lexer.finish(&mut self.names);
-        known_table(&self.names);
+        let left = self.lexer.finish(&mut self.scope.world.names);
+        known_table(&self.scope.world.names);
         match left {
             Ok(left) => match self.take_option(left) {
                 Ok(Progress::More) => match self.builder.finish() {

@@ -1,16 +1,49 @@
-//! The rules of commands (SMT-LIB 2.6, sections 3.9 and 4.2), without their effects.
-ghost use Rattle.std.specs.Prelude.{◌≡◌};
+//! The rules of commands (SMT-LIB 2.6, sections 3.9 and 4.2) that come before their names, sorts and terms.
+ghost use Rattle.std.specs.Prelude.{◌≡◌, ◌↔◌, ◌≤◌, ◌^◌, [], IfSome, IsNone, slice_index_or, slice_get};
 ghost use Rattle.cmd_grammar.specs.CommandViews.{command_from};
+ghost use Rattle.typer.specs.Numerals.{numeral_value as value_of_text};
 ghost use Rattle.script_core.specs.Rules.{attribute_key as key_of_attribute};
-ghost use Rattle.script_core.specs.RuleAnswers.{answer_command, both, test};
+ghost use Rattle.script_core.specs.RuleAnswers.{answer_all_built, answer_built, answer_form, answer_head, answer_mode, answer_pop, answer_push, both, is_text, test};
 ghost use Rattle.script_core.specs.Checking.{environment_of};
 
-use crate::scope::{Scope, is_known};
-use crate::terms::{has_text, judge_built, judge_sort, judge_term};
+use crate::scope::Scope;
 use cmd_grammar::RawCommandKind;
-use lex_core::{Names, Place, Tok};
+use lex_core::{NameId, Names, Place, Tok};
 use sig_table::Code;
-use term_grammar::{GLOBAL_DECLARATIONS, RawAttribute, RawAttributeKind};
+use term_grammar::{
+    GLOBAL_DECLARATIONS, RawAttribute, RawAttributeKind, RawQualified, RawQualifiedKind, RawTerm,
+    RawTermKind, RawTerms,
+};
+use typer::numeral_value;
+
+/// The text of a name, and no bytes where the table does not have it.
+pub fn text_of(names: &Names, id: NameId) -> &[u8]
+    ensures { result.now ≡ slice_index_or names.now id [] }
+{
+    if (id.number() as usize) < names.count() {
+        names.text(id)
+    } else {
+        b""
+    }
+}
+
+// Whether the text of the name is this one. It is not where the table does not have the name.
+fn has_text(names: &Names, id: NameId, text: &[u8]) -> bool
+    ensures { result ≡ is_text (slice_get names.now id) text.now }
+{
+    if id.number() as usize >= names.count() {
+        return false;
+    }
+    names.text(id) == text
+}
+
+/// The value of a numeral; none exactly where it is above 4,294,967,295.
+pub fn value_of(names: &Names, numeral: &Tok) -> Option<u32>
+    ensures value { IfSome result (λ n. n ≡ value_of_text (slice_index_or names.now numeral.now.name [])) }
+    ensures too_large { IsNone result ↔ (2 ^ 32 ≤ value_of_text (slice_index_or names.now numeral.now.name [])) }
+{
+    numeral_value(text_of(names, numeral.name))
+}
 
 // The fault, where the rule is not met.
 fn rule(met: bool, code: Code, at: u32) -> Result<(), Place>
@@ -19,7 +52,8 @@ fn rule(met: bool, code: Code, at: u32) -> Result<(), Place>
     if met { Ok(()) } else { Err(Place { code, at }) }
 }
 
-fn attribute_key(attribute: &RawAttribute) -> Tok
+/// The keyword of an attribute.
+pub fn attribute_key(attribute: &RawAttribute) -> Tok
     ensures { result ≡ key_of_attribute attribute.now }
 {
     match attribute.kind() {
@@ -27,33 +61,104 @@ fn attribute_key(attribute: &RawAttribute) -> Tok
         RawAttributeKind::Valued { keyword, .. } => keyword,
     }
 }
-
-/// Judges a command, whose list begins at this byte: whether it is built, whether it may stand here, and then its names, sorts
-/// and terms.
-pub fn judge_command(
-    names: &Names,
-    scope: &Scope,
-    at: u32,
-    command: &RawCommandKind,
-) -> Result<(), Place>
-    ensures { result ≡ answer_command (environment_of names.now scope.now) at (command_from command.now) }
+// An identifier is a head that is built, and one with `as` is not.
+fn judge_head(at: u32, head: &RawQualified) -> Result<(), Place>
+    ensures { result ≡ answer_head at head.now }
 {
-    let no_logic = rule(scope.logic, Code::LogicNotSet, at);
+    match head.kind() {
+        RawQualifiedKind::Identifier(_) => Ok(()),
+        RawQualifiedKind::As { .. } => Err(Place {
+            code: Code::WrongTermForm,
+            at,
+        }),
+    }
+}
+
+/// Finds the first tree of a production that is not built, a tree before its parts.
+#[cycle(built)]
+pub fn judge_built(term: &RawTerm) -> Result<(), Place>
+    ensures { result ≡ answer_built term.now }
+{
+    let at = term.at();
+    match term.kind() {
+        RawTermKind::Constant(_) => Ok(()),
+        RawTermKind::Qualified(head) => judge_head(at, &head),
+        RawTermKind::Application { head, args } => {
+            judge_head(at, &head)?;
+            judge_all_built(&args)
+        }
+        RawTermKind::Let { .. }
+        | RawTermKind::Forall { .. }
+        | RawTermKind::Exists { .. }
+        | RawTermKind::Match { .. }
+        | RawTermKind::Annotated { .. } => Err(Place {
+            code: Code::WrongTermForm,
+            at,
+        }),
+    }
+}
+
+#[cycle(built)]
+fn judge_all_built(terms: &RawTerms) -> Result<(), Place>
+    ensures { result ≡ answer_all_built terms.now }
+{
+    let mut next = terms.split();
+    while let Some((first, rest)) = next {
+        judge_built(&first)?;
+        next = rest.split();
+    }
+    Ok(())
+}
+
+// Whether the command is built, and the productions of its terms.
+fn judge_form(at: u32, command: &RawCommandKind) -> Result<(), Place>
+    ensures { result ≡ answer_form at (command_from command.now) }
+{
     match command {
-        RawCommandKind::Assert(term) => {
-            judge_built(term)?;
-            no_logic?;
-            judge_term(names, scope, term)
-        }
-        RawCommandKind::DeclareConst { name, sort } => {
-            no_logic?;
-            let new = !is_known(names, scope, name.name);
-            rule(new, Code::FunctionNameInUse, name.at)?;
-            judge_sort(names, scope, sort)
-        }
+        RawCommandKind::Assert(term) => judge_built(term),
+        RawCommandKind::CheckSatAssuming(_)
+        | RawCommandKind::DeclareDatatype { .. }
+        | RawCommandKind::DeclareDatatypes { .. }
+        | RawCommandKind::DefineFun(_)
+        | RawCommandKind::DefineFunRec(_)
+        | RawCommandKind::DefineFunsRec { .. }
+        | RawCommandKind::GetValue(_) => rule(false, Code::WrongCommandForm, at),
+        _ => Ok(()),
+    }
+}
+
+// Whether `push` leaves few enough levels open.
+fn judge_push(scope: &Scope, at: u32, count: &Tok) -> Result<(), Place>
+    ensures { result ≡ answer_push (environment_of scope.now.world.names scope.now) at count.now }
+{
+    rule(scope.logic, Code::LogicNotSet, at)?;
+    let few = match value_of(&scope.world.names, count) {
+        Some(n) => u64::from(n) + u64::from(scope.world.scopes.levels()) <= 65_535,
+        None => false,
+    };
+    rule(few, Code::TooManyLevels, at)
+}
+
+// Whether `pop` closes no more levels than are open.
+fn judge_pop(scope: &Scope, at: u32, count: &Tok) -> Result<(), Place>
+    ensures { result ≡ answer_pop (environment_of scope.now.world.names scope.now) at count.now }
+{
+    rule(scope.logic, Code::LogicNotSet, at)?;
+    let levels = scope.world.scopes.levels();
+    let enough = match value_of(&scope.world.names, count) {
+        Some(n) => n <= levels,
+        None => false,
+    };
+    rule(enough, Code::TooFewLevels, at)
+}
+
+fn judge_mode(scope: &Scope, at: u32, command: &RawCommandKind) -> Result<(), Place>
+    ensures { result ≡ answer_mode (environment_of scope.now.world.names scope.now) at (command_from command.now) }
+{
+    match command {
         RawCommandKind::SetLogic(name) => {
             rule(!scope.logic, Code::LogicAlreadySet, at)?;
-            let known = has_text(names, name.name, b"QF_UF");
+            let known = has_text(&scope.world.names, name.name, b"QF_UF");
             rule(known, Code::UnknownLogic, at)
         }
         RawCommandKind::SetOption(attribute) => {
@@ -64,27 +169,19 @@ pub fn judge_command(
         | RawCommandKind::GetOption(_)
         | RawCommandKind::GetInfo(_)
         | RawCommandKind::Echo(_)
-        | RawCommandKind::Exit => Ok(()),
-        RawCommandKind::CheckSat
-        | RawCommandKind::GetAssertions
-        | RawCommandKind::GetAssignment
-        | RawCommandKind::GetModel
-        | RawCommandKind::GetProof
-        | RawCommandKind::GetUnsatAssumptions
-        | RawCommandKind::GetUnsatCore => no_logic,
-        RawCommandKind::CheckSatAssuming(_)
-        | RawCommandKind::DeclareDatatype { .. }
-        | RawCommandKind::DeclareDatatypes { .. }
-        | RawCommandKind::DeclareFun { .. }
-        | RawCommandKind::DeclareSort { .. }
-        | RawCommandKind::DefineFun(_)
-        | RawCommandKind::DefineFunRec(_)
-        | RawCommandKind::DefineFunsRec { .. }
-        | RawCommandKind::DefineSort { .. }
-        | RawCommandKind::GetValue(_)
-        | RawCommandKind::Pop(_)
-        | RawCommandKind::Push(_)
         | RawCommandKind::Reset
-        | RawCommandKind::ResetAssertions => rule(false, Code::WrongCommandForm, at),
+        | RawCommandKind::Exit => Ok(()),
+        RawCommandKind::Push(count) => judge_push(scope, at, count),
+        RawCommandKind::Pop(count) => judge_pop(scope, at, count),
+        _ => rule(scope.logic, Code::LogicNotSet, at),
     }
+}
+
+/// Judges the form and the mode of a command, whose list begins at this byte.
+pub fn judge_command(scope: &Scope, at: u32, command: &RawCommandKind) -> Result<(), Place>
+    ensures { let env = environment_of scope.now.world.names scope.now in let c = command_from command.now in
+        result ≡ both (answer_form at c) (answer_mode env at c) }
+{
+    judge_form(at, command)?;
+    judge_mode(scope, at, command)
 }

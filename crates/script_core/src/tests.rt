@@ -54,7 +54,7 @@ fn try_refused(
 
 #[test]
 fn refuses_texts_at_their_bytes(rt: HostRuntime) -> Result<(), Fail> {
-    let rows: [(&[u8], u32, u32, Code); 30] = [
+    let rows: [(&[u8], u32, u32, Code); 31] = [
         (b"a[", 1, 0, Code::AtomOutsideLists),
         (b"(echo \"a\"", 1, 0, Code::UnclosedList),
         (
@@ -76,7 +76,8 @@ fn refuses_texts_at_their_bytes(rt: HostRuntime) -> Result<(), Fail> {
         (b"(foo)", 1, 0, Code::UnknownCommand),
         (b"(check-sat 1)", 1, 0, Code::WrongCommandForm),
         (b"(assert (let () true))", 1, 8, Code::WrongTermForm),
-        (b"(push 1)", 1, 0, Code::WrongCommandForm),
+        (b"(push 1)", 1, 0, Code::LogicNotSet),
+        (b"(get-value (p))", 1, 0, Code::WrongCommandForm),
         (
             b"(set-logic QF_UF)(assert (and true (let ((x true)) x)))",
             2,
@@ -120,7 +121,7 @@ fn refuses_texts_at_their_bytes(rt: HostRuntime) -> Result<(), Fail> {
             b"(set-logic QF_UF)(declare-const p (Bool Bool))",
             2,
             34,
-            Code::UnknownSort,
+            Code::WrongSortArity,
         ),
         (
             b"(set-logic QF_UF)(declare-const p (_ BitVec 8))",
@@ -158,6 +159,102 @@ fn refuses_texts_at_their_bytes(rt: HostRuntime) -> Result<(), Fail> {
     ];
     for (text, command, at, rule) in &rows {
         try_refused(&rt, rt.alloc(), text, *command, *at, *rule)?;
+    }
+    Ok(())
+}
+
+#[test]
+fn refuses_sorts_and_levels_at_their_bytes(rt: HostRuntime) -> Result<(), Fail> {
+    let rows: [(&[u8], u32, u32, Code); 10] = [
+        (
+            b"(set-logic QF_UF)(declare-sort P 2)(declare-sort E 0)(define-sort D1 () (P E E))\
+            (define-sort D2 () (P D1 D1))(define-sort D3 () (P D2 D2))(define-sort D4 () (P D3 D3))\
+            (define-sort D5 () (P D4 D4))(define-sort D6 () (P D5 D5))(define-sort D7 () (P D6 D6))\
+            (define-sort D8 () (P D7 D7))(define-sort D9 () (P D8 D8))",
+            12,
+            302,
+            Code::SortTooLarge,
+        ),
+        (
+            b"(set-logic QF_UF)(declare-sort P 2)(declare-const c (P Bool))",
+            3,
+            52,
+            Code::WrongSortArity,
+        ),
+        (
+            b"(set-logic QF_UF)(declare-sort S 0)(declare-sort P 2)(define-sort D () S)\
+            (define-sort F (S) (P S D))",
+            5,
+            97,
+            Code::CapturedSortParameter,
+        ),
+        (
+            b"(set-logic QF_UF)(push 1)(declare-sort S 0)(pop 1)(declare-const c S)",
+            5,
+            67,
+            Code::UnknownSort,
+        ),
+        (
+            b"(set-option :global-declarations true)(set-logic QF_UF)(push 1)(declare-sort S 0)\
+            (pop 1)(declare-sort S 2)",
+            6,
+            102,
+            Code::SortNameInUse,
+        ),
+        (b"(set-logic QF_UF)(pop 1)", 2, 17, Code::TooFewLevels),
+        (
+            b"(set-logic QF_UF)(push 65535)(push 1)",
+            3,
+            29,
+            Code::TooManyLevels,
+        ),
+        (
+            b"(set-logic QF_UF)(define-sort D (X Y X) Bool)",
+            2,
+            37,
+            Code::RepeatedVariable,
+        ),
+        (
+            b"(set-logic QF_UF)(declare-sort S 4294967296)",
+            2,
+            33,
+            Code::NumberTooLarge,
+        ),
+        (
+            b"(set-logic QF_UF)(declare-sort S 0)(declare-fun f (S) S)(declare-const a S)\
+            (assert (f a))",
+            5,
+            83,
+            Code::WrongTermSort,
+        ),
+    ];
+    for (text, command, at, rule) in &rows {
+        try_refused(&rt, rt.alloc(), text, *command, *at, *rule)?;
+    }
+    Ok(())
+}
+
+#[test]
+fn accepts_sorts_on_their_levels(rt: HostRuntime) -> Result<(), Fail> {
+    let rows: [(&[u8], u32); 3] = [
+        (
+            b"(set-logic QF_UF)(declare-sort S 0)(declare-sort P 2)(define-sort D () S)\
+            (define-sort F (T) (P T D))",
+            5,
+        ),
+        (
+            b"(set-logic QF_UF)(push 1)(declare-sort S 0)(pop 1)(declare-sort S 2)\
+            (declare-const c (S Bool Bool))",
+            6,
+        ),
+        (
+            b"(set-logic QF_UF)(declare-sort S 0)(reset)(set-logic QF_UF)(declare-sort S 0)\
+            (reset-assertions)(declare-sort S 0)",
+            7,
+        ),
+    ];
+    for (text, count) in &rows {
+        assert_eq!(rt; answer(&rt, rt.alloc(), text, 0)?, (Ok(()), *count));
     }
     Ok(())
 }

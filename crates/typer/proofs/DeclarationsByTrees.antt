@@ -1,6 +1,6 @@
 -- What each call leaves of the scopes, by trees: the same operation on their declarations.
-use Rattle.std.proofs.Common.{◌≡◌, ℕ, zero, suc, ◌-◌, Bool, true, false, List, [], ◌∷◌, ◌++◌, map, length, take, replicate, Option, Some, None, IsSome, ◌↔◌, refl, ap, sym, ◌∙◌, subst}
-use Rattle.std.specs.Option.{option_map}
+use Rattle.std.proofs.Common.{◌≡◌, ℕ, zero, suc, ◌-◌, Bool, true, false, ◌||◌, Bor, List, [], ◌∷◌, ◌++◌, map, length, take, replicate, Option, Some, None, IsSome, ◌↔◌, refl, ap, sym, ◌∙◌}
+use Rattle.std.specs.Option.{option_map, option_copied, is_some}
 use Rattle.std.specs.List.{take-map}
 use Rattle.std.specs.Map.{lookup}
 use Rattle.std.proofs.lemmas.List.{map-append, length-map}
@@ -62,16 +62,30 @@ fun_found name e = found_mapped fun_declaration name e.funs
 pub sort_found : (name : ℕ) (e : Environment) → found name (declarations_of e).sorts ≡ option_map sort_declaration (found name e.sorts)
 sort_found name e = found_mapped sort_declaration name e.sorts
 
--- a name is in use by trees exactly where it is in use
-is_some_map : {X Y : Type 0} (f : X → Y) (o : Option X) → IsSome (option_map f o) ↔ IsSome o
-is_some_map f (Some x) = (λ h. refl, λ h. refl)
-is_some_map f None = (λ h. h, λ h. h)
+-- a name is live by trees exactly where it is live
+is_some_map : {X Y : Type 0} (f : X → Y) (o : Option X) → is_some (option_map f o) ≡ is_some o
+is_some_map f (Some x) = refl
+is_some_map f None = refl
+
+pub fun_live : (name : ℕ) (e : Environment) → is_some (found name (declarations_of e).funs) ≡ is_some (found name e.funs)
+fun_live name e = ap is_some (fun_found name e) ∙ is_some_map fun_declaration (found name e.funs)
+
+pub sort_live : (name : ℕ) (e : Environment) → is_some (found name (declarations_of e).sorts) ≡ is_some (found name e.sorts)
+sort_live name e = ap is_some (sort_found name e) ∙ is_some_map sort_declaration (found name e.sorts)
 
 pub fun_in_use : (name : ℕ) (e : Environment) → IsSome (found name (declarations_of e).funs) ↔ IsSome (found name e.funs)
-fun_in_use name e = subst (λ o. IsSome o ↔ IsSome (found name e.funs)) (sym (fun_found name e)) (is_some_map fun_declaration (found name e.funs))
+fun_in_use name e = (λ h. sym (fun_live name e) ∙ h, λ h. fun_live name e ∙ h)
 
 pub sort_in_use : (name : ℕ) (e : Environment) → IsSome (found name (declarations_of e).sorts) ↔ IsSome (found name e.sorts)
-sort_in_use name e = subst (λ o. IsSome o ↔ IsSome (found name e.sorts)) (sym (sort_found name e)) (is_some_map sort_declaration (found name e.sorts))
+sort_in_use name e = (λ h. sym (sort_live name e) ∙ h, λ h. sort_live name e ∙ h)
+
+-- a look-up that is copied, and what is in use where a first test fails
+pub copied_live : {X : Type 0} (o : Option (Bor X)) → is_some o ≡ is_some (option_copied o)
+copied_live (Some x) = refl
+copied_live None = refl
+
+pub second_of : (a b r : Bool) → a ≡ false → r ≡ b → r ≡ (a || b)
+second_of a b r e f = f ∙ ap (λ z. z || b) (sym e)
 
 pub empty_by_trees : declarations_of scopes.empty ≡ no_declarations
 empty_by_trees = refl

@@ -10,3 +10,9 @@ pub mod ReadyKept
 pub mod SortsReady
 pub mod LiveDeclarations
 pub mod ReadyCalls
+pub mod RankSteps
+pub mod FunctionSteps
+pub mod ListSteps
+pub mod TermSteps
+pub mod SortsDecided
+pub mod TermLaws

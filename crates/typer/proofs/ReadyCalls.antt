@@ -6,6 +6,7 @@ use Rattle.sig_table.specs.declared.theories.Theories.{Theories}
 use Rattle.sort_store.specs.declared.head.Head.{Head}
 use Rattle.sort_store.specs.declared.head.Head.TheVariants as head
 use Rattle.sort_store.specs.Tree.{Sort, sort, SortList, no_sorts, more_sorts, NumberedSort, tree}
+use Rattle.sort_store.specs.Interned.{HasNoRepeats}
 use Rattle.scope_stack.specs.declared.entry.FunEntry.{FunEntry}
 use Rattle.scope_stack.specs.declared.entry.SortEntry.{SortEntry}
 use Rattle.scope_stack.specs.declared.entry.SortEntry.TheVariants as entry
@@ -33,7 +34,7 @@ module _ (world : World) (ready : IsReady world) where
   funs_each = each_of_all OfFun (live world.scopes.funs) ready.funs
 
   ready_with : (scopes : Environment) → Each OfSort (live scopes.sorts) → Each OfFun (live scopes.funs) → IsReady (with_scopes scopes world)
-  ready_with scopes h k = record { sorts = all_of_each OfSort (live scopes.sorts) h; funs = all_of_each OfFun (live scopes.funs) k }
+  ready_with scopes h k = record { distinct = ready.distinct; sorts = all_of_each OfSort (live scopes.sorts) h; funs = all_of_each OfFun (live scopes.funs) k }
 
   pub ready_with_sort : (name : ℕ) (d : SortEntry) → IsReadySort world.names world.theories world.sorts (name, d) → IsReady (with_scopes (with_sort name d world.scopes) world)
   ready_with_sort name d h = ready_with (with_sort name d world.scopes) (each_declared OfSort world.scopes.global (name, d) world.scopes.sorts h sorts_each) funs_each
@@ -54,8 +55,8 @@ module _ (world : World) (ready : IsReady world) where
   ready_without_assertions = ready_with (without_assertions world.scopes) (each_global OfSort world.scopes.sorts sorts_each) (each_global OfFun world.scopes.funs funs_each)
 
 -- where nothing is declared, the theories may be any
-pub ready_empty : (world : World) → world.scopes ≡ empty → IsReady world
-ready_empty world e = record { sorts = subst (λ s. All (IsReadySort world.names world.theories world.sorts) (live s.sorts)) (sym e) (all_of_each _ [] tt); funs = subst (λ s. All (IsReadyFun world.names world.sorts) (live s.funs)) (sym e) (all_of_each _ [] tt) }
+pub ready_empty : (world : World) → world.scopes ≡ empty → HasNoRepeats world.sorts → IsReady world
+ready_empty world e distinct = record { distinct = distinct; sorts = subst (λ s. All (IsReadySort world.names world.theories world.sorts) (live s.sorts)) (sym e) (all_of_each _ [] tt); funs = subst (λ s. All (IsReadyFun world.names world.sorts) (live s.funs)) (sym e) (all_of_each _ [] tt) }
 
 -- a table that gains texts
 module _ (texts more : List (List ℕ)) where
@@ -103,6 +104,7 @@ with_names texts world = record world { names = texts }
 
 pub ready_with_names : (world : World) (texts : List (List ℕ)) → ExtendsTable world.names texts → IsReady world → IsReady (with_names texts world)
 ready_with_names world texts (more, e) ready = subst (λ t. IsReady (with_names t world)) (sym e) (record {
+  distinct = ready.distinct;
   sorts = λ k d l. (let h = ready.sorts k d l in
       record { name = longer world.names more _ h.name; no_theory_sort = theory_sort_kept world.names more world.theories _ h.name h.no_theory_sort; entry = entry_kept world.names more world.sorts _ h.entry });
   funs = λ k d l. (let h = ready.funs k d l in record { name = longer world.names more _ h.name; entry = fun_kept world.names more world.sorts _ h.entry });
@@ -116,4 +118,8 @@ ready_declared world scopes name d e ready l free h =
 pub ready_stays : (world : World) (scopes : Environment) → scopes ≡ world.scopes → IsReady world → IsReady (record world { scopes = scopes })
 ready_stays world scopes e ready = subst (λ s. IsReady (with_scopes s world)) (sym e) ready
 
-pub ruleset ready_calls = (ready_declared, ready_stays, ready_with_names, ready_empty)
+-- a store of no sorts
+pub no_repeats_of_none : HasNoRepeats []
+no_repeats_of_none = record { distinct = λ i j t e f. cc }
+
+pub ruleset ready_calls = (ready_declared, ready_stays, ready_with_names, ready_empty, no_repeats_of_none)

@@ -1,7 +1,7 @@
 -- A world stays ready where its store of sorts alone has grown.
 use Rattle.std.proofs.Common.{ℕ, List, subst, sym}
 use Rattle.sort_store.specs.Tree.{Sort, NumberedSort}
-use Rattle.sort_store.specs.Interned.{Grows}
+use Rattle.sort_store.specs.Interned.{Grows, HasNoRepeats}
 use Rattle.sort_store.proofs.GrownStores.{interned_grown}
 use Rattle.scope_stack.specs.declared.entry.SortEntry.{SortEntry}
 use Rattle.scope_stack.specs.declared.entry.SortEntry.TheVariants as entry
@@ -22,13 +22,14 @@ module _ (texts : List (List ℕ)) (old new : List Sort) (grows : Grows old new)
   fun_grown : (f : FunEntry) → IsReadyFunEntry texts old f → IsReadyFunEntry texts new f
   fun_grown f h = record { args = λ i r l. schema_grown f.params _ (h.args i r l); result = schema_grown f.params f.result h.result; params = h.params }
 
-grown : (world : World) (store : List Sort) → Grows world.sorts store → IsReady world → IsReady (record world { sorts = store })
-grown world store g ready = record {
+grown : (world : World) (store : List Sort) → Grows world.sorts store → HasNoRepeats store → IsReady world → IsReady (record world { sorts = store })
+grown world store g distinct ready = record {
+  distinct = distinct;
   sorts = λ k d l. (let h = ready.sorts k d l in record { name = h.name; no_theory_sort = h.no_theory_sort; entry = entry_grown world.names world.sorts store g _ h.entry });
   funs = λ k d l. (let h = ready.funs k d l in record { name = h.name; entry = fun_grown world.names world.sorts store g _ h.entry });
 }
 
-pub ready_kept : (old new : World) → OthersStay old new → Grows old.sorts new.sorts → IsReady old → IsReady new
-ready_kept old new e g ready = subst IsReady (sym e) (grown old new.sorts g ready)
+pub ready_kept : (old new : World) → OthersStay old new → Grows old.sorts new.sorts → HasNoRepeats new.sorts → IsReady old → IsReady new
+ready_kept old new e g distinct ready = subst IsReady (sym e) (grown old new.sorts g distinct ready)
 
 pub ruleset ready_words = (ready_kept, interned_grown)

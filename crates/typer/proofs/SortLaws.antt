@@ -3,7 +3,7 @@ use Rattle.std.proofs.Common.{◌≡◌, ℕ, zero, suc, arith, ap, ◌≤◌, L
 use Rattle.sig_table.specs.declared.theories.Theories.{Theories}
 use Rattle.lex_core.specs.declared.place.Place.{Place}
 use Rattle.lex_core.specs.declared.token.Tok.{Tok}
-use Rattle.judgement.specs.Judging.{well_sorted, ill_sorted, Lawful, DeclaresNone}
+use Rattle.judgement.specs.Judging.{Judging, well_sorted, ill_sorted, Lawful, DeclaresNone}
 use Rattle.judgement.proofs.JudgementLaws.{lawful-done, lawful-check, lawful-find, lawful-then, test_decided, option_decided, value_or_fault, value_once, never_both, fault_once}
 use Rattle.judgement.proofs.NamesKept.{none-done, none-check, none-find, none-then}
 use Rattle.term_grammar.specs.Syntax as syntax
@@ -18,11 +18,20 @@ at_most zero n = inl (omega arith)
 at_most (suc m) zero = inr (λ h. omega (arith, h))
 at_most (suc m) (suc n) = elim (at_most m n) [ inl h ↦ inl (omega (arith, h)) | inr differs ↦ inr (λ h. differs (omega (arith, h))) ]
 
-same_number : (m n : ℕ) → (m ≡ n) ⊎ (m ≡ n → ⊥)
+pub same_number : (m n : ℕ) → (m ≡ n) ⊎ (m ≡ n → ⊥)
 same_number zero zero = inl refl
 same_number zero (suc n) = inr (λ h. omega (arith, h))
 same_number (suc m) zero = inr (λ h. omega (arith, h))
 same_number (suc m) (suc n) = elim (same_number m n) [ inl h ↦ inl (ap suc h) | inr differs ↦ inr (λ h. differs (omega (arith, h))) ]
+
+-- a judgement that declares no name has a value or a fault, whatever names were declared before
+pub decided_of : {A : Type 0} (J : Judging A) → Lawful J → DeclaresNone J → ((x : A) × ((before : List ℕ) → J before (well_sorted x before))) ⊎ ((place : Place) × ((before : List ℕ) → J before (ill_sorted place)))
+decided_of {A} J law none = by (value_or_fault J law [])
+  where
+    by : ((x : A) × (after : List ℕ) × J [] (well_sorted x after)) ⊎ ((place : Place) × J [] (ill_sorted place))
+        → ((x : A) × ((before : List ℕ) → J before (well_sorted x before))) ⊎ ((place : Place) × ((before : List ℕ) → J before (ill_sorted place)))
+    by (inl (x, after, h)) = inl (x, (none [] (well_sorted x after) h).1)
+    by (inr (place, h)) = inr (place, none [] (ill_sorted place) h)
 
 module _ (texts : List (List ℕ)) (declarations : Declarations) (theories : Theories) (params : List ℕ) where
   lawful-indexed : (t : Tok) (is : List Tok) (at : ℕ) (args : List Sort) → Lawful (judge_indexed texts theories at args t is)
@@ -80,9 +89,4 @@ module _ (texts : List (List ℕ)) (declarations : Declarations) (theories : The
   fault_of_sort_once s p q h k = fault_once _ (lawful-sort s) [] p q (h []) (k [])
 
   pub sort_decided : (s : syntax.Sort) → ((t : Sort) × SortOf texts declarations theories params s t) ⊎ ((place : Place) × SortFault texts declarations theories params s place)
-  sort_decided s = by (value_or_fault _ (lawful-sort s) [])
-    where
-      by : ((t : Sort) × (after : List ℕ) × judge_sort texts declarations theories params s [] (well_sorted t after)) ⊎ ((place : Place) × judge_sort texts declarations theories params s [] (ill_sorted place))
-          → ((t : Sort) × SortOf texts declarations theories params s t) ⊎ ((place : Place) × SortFault texts declarations theories params s place)
-      by (inl (t, after, h)) = inl (t, (none-sort s [] (well_sorted t after) h).1)
-      by (inr (place, h)) = inr (place, none-sort s [] (ill_sorted place) h)
+  sort_decided s = decided_of _ (lawful-sort s) (none-sort s)

@@ -1,6 +1,6 @@
 -- What a raw sort is well sorted with may stand in a declaration with the command's parameters: its names are in the table,
 -- and its parameters are the command's.
-use Rattle.std.proofs.Common.{◌≡◌, ℕ, zero, suc, ◌<◌, ◌==◌, Bool, true, false, if◌then◌else◌, List, [], ◌∷◌, length, slice_index_or, Option, Some, None, Result, Ok, Err, refl, sym, arith, subst}
+use Rattle.std.proofs.Common.{◌≡◌, ℕ, zero, suc, ◌<◌, ◌==◌, Bool, true, false, if◌then◌else◌, List, [], ◌∷◌, map, length, slice_index_or, Option, Some, None, Result, Ok, Err, refl, sym, arith, subst}
 use Rattle.std.specs.Option.{option_map}
 use Rattle.std.specs.List.{position}
 use Rattle.std.proofs.lemmas.List.Quantifiers.{position-Some}
@@ -13,16 +13,20 @@ use Rattle.sort_store.specs.Instance.{inst, insts}
 use Rattle.scope_stack.specs.declared.entry.SortEntry.{SortEntry}
 use Rattle.scope_stack.specs.declared.entry.SortEntry.TheVariants as entry
 use Rattle.scope_stack.specs.Levels.{found}
+use Rattle.std.specs.Prelude.{Vec}
+use Rattle.std.specs.Global.{Global}
+use Rattle.std.specs.List.{All}
 use Rattle.std.specs.Result.{IfOk}
-use Rattle.sort_store.specs.Interned.{IsInterned}
+use Rattle.sort_store.specs.Interned.{IsInterned, AllInterned}
 use Rattle.typer.specs.declared.error.TyError.{TyError}
 use Rattle.typer.specs.declared.world.World.{World}
-use Rattle.typer.specs.Answers.{Answers, tree_answer}
+use Rattle.typer.specs.Answers.{Answers, tree_answer, trees_answer}
 use Rattle.typer.specs.Declarations.{sort_declaration, declarations_of}
 use Rattle.typer.specs.Ready.{IsReady, IsReadySchema, IsReadySort, IsReadyHead, IsReadyTree, AreReadyTrees}
 use Rattle.typer.specs.SortSymbols.{Meaning, symbol_of, definition_of, declared_symbol, or_else, meaning}
 use Rattle.typer.specs.SortRules.{judge_meaning}
 use Rattle.typer.proofs.DeclarationsByTrees.{sort_found}
+use Rattle.typer.proofs.LiveDeclarations.{Each, all_of_each}
 use Rattle.typer.proofs.NameSteps.{sort_kept}
 use Rattle.typer.proofs.SortSteps.{sort_in, sorts_in, identifier_in, OthersStay}
 
@@ -120,3 +124,15 @@ pub schema_of : (old new : World) (params : List ℕ) (raw : syntax.Sort) (r : R
 schema_of old new params raw (Ok s) ready others h i =
     record { interned = i; ready = subst (λ w. IsReadyTree w.names (length params) (tree s)) (sym others) (sort_ready old params ready raw (tree s) [] [] (h [])) }
 schema_of old new params raw (Err e) ready others h i = tt
+
+each_schema : (texts : List (List ℕ)) (store : List Sort) (params : ℕ) (rs : List NumberedSort) → AllInterned store rs → AreReady texts params (map tree rs) → Each (IsReadySchema texts store params) rs
+each_schema texts store params [] i r = tt
+each_schema texts store params (s ∷ rs) i r = (record { interned = i.0; ready = r.0 }, each_schema texts store params rs i.1 r.1)
+
+-- .. and of each of some sorts
+pub schemas_of : (old new : World) (params : List ℕ) (raws : Sorts) (r : Result (Vec NumberedSort Global) TyError) → IsReady old → OthersStay old new
+    → Answers (trees_answer r) (sorts_in old params raws) → IfOk r (λ v. AllInterned new.sorts v.items) → IfOk r (λ v. All (IsReadySchema new.names new.sorts (length params)) v.items)
+schemas_of old new params raws (Ok v) ready others h i =
+    all_of_each (IsReadySchema new.names new.sorts (length params)) v.items (each_schema new.names new.sorts (length params) v.items i
+    (subst (λ w. AreReady w.names (length params) (map tree v.items)) (sym others) (sorts_ready old params ready raws (map tree v.items) [] [] (h []))))
+schemas_of old new params raws (Err e) ready others h i = tt

@@ -4,3 +4,5 @@ pub mod SortSymbols
 pub mod SortRules
 pub mod Answers
 pub mod Ready
+pub mod FunctionSymbols
+pub mod TermRules

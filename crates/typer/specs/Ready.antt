@@ -1,12 +1,12 @@
 -- What a world keeps: its table has the names of the live declarations and of the sorts that stand in them, its store has
--- these sorts, and they have no parameter past the number that the declaration gives.
+-- these sorts, each once, and they have no parameter past the number that the declaration gives.
 use Rattle.std.specs.Prelude.{◌≡◌, ℕ, ◌<◌, Bool, true, false, List, length, ⊤}
 use Rattle.std.specs.List.{All}
 use Rattle.sig_table.specs.declared.theories.Theories.{Theories}
 use Rattle.sort_store.specs.declared.head.Head.{Head}
 use Rattle.sort_store.specs.declared.head.Head.TheVariants as head
 use Rattle.sort_store.specs.Tree.{Sort, sort, SortList, no_sorts, more_sorts, NumberedSort, tree}
-use Rattle.sort_store.specs.Interned.{IsInterned}
+use Rattle.sort_store.specs.Interned.{IsInterned, HasNoRepeats}
 use Rattle.scope_stack.specs.declared.entry.FunEntry.{FunEntry}
 use Rattle.scope_stack.specs.declared.entry.FunKind.{FunKind}
 use Rattle.scope_stack.specs.declared.entry.FunKind.TheVariants as kind
@@ -64,5 +64,6 @@ pub record IsReadyFun (texts : List (List ℕ)) (store : List Sort) (d : ℕ × 
   pub entry : IsReadyFunEntry texts store d.1
 
 pub record IsReady (world : World) : Type 0 where
+  pub distinct : HasNoRepeats world.sorts
   pub sorts : All (IsReadySort world.names world.theories world.sorts) (live world.scopes.sorts)
   pub funs : All (IsReadyFun world.names world.sorts) (live world.scopes.funs)

@@ -1,5 +1,5 @@
 //! Sorts of a sort symbol and arguments whose sorts are known.
-ghost use Rattle.std.specs.Prelude.{◌≡◌, ◌↔◌, IfOk, OnOk, IsTrue, length, map};
+ghost use Rattle.std.specs.Prelude.{◌≡◌, ◌↔◌, IfOk, IsTrue, length, map};
 ghost use Rattle.sort_store.specs.Instance.{ParamsBelow};
 ghost use Rattle.sort_store.specs.Interned.{IsInterned, AllInterned, HasNoRepeats, Grows};
 ghost use Rattle.sort_store.specs.Tree.{tree};
@@ -37,11 +37,12 @@ pub(crate) fn symbol_sort(
     head: Head,
     arity: u32,
 ) -> Result<SortRef, TyError>
-    requires { AllInterned sorts.old args.now }
+    requires interned { AllInterned sorts.old args.now }
+    requires distinct { HasNoRepeats sorts.old }
     ensures answer { Answers (tree_answer result) (judge_symbol at (map tree args.now) head arity) }
     ensures interned { IfOk result (λ r. IsInterned sorts.new r) }
     ensures grows { Grows sorts.old sorts.new }
-    ensures distinct { OnOk result (HasNoRepeats sorts.new) }
+    ensures distinct { HasNoRepeats sorts.new }
 {
     if !has_arity(args, arity) {
         return Err(fault(Code::WrongSortArity, at));
@@ -63,12 +64,13 @@ pub(crate) fn definition_sort(
     body: &SortRef,
 ) -> Result<SortRef, TyError>
     requires interned { AllInterned sorts.old args.now }
+    requires distinct { HasNoRepeats sorts.old }
     requires params { ParamsBelow arity (tree body.now) }
     ensures answer { Answers (tree_answer result)
         (judge_definition names.now params.now at (map tree args.now) arity (tree body.now)) }
     ensures interned { IfOk result (λ r. IsInterned sorts.new r) }
     ensures grows { Grows sorts.old sorts.new }
-    ensures distinct { OnOk result (HasNoRepeats sorts.new) }
+    ensures distinct { HasNoRepeats sorts.new }
 {
     if !has_arity(args, arity) {
         return Err(fault(Code::WrongSortArity, at));

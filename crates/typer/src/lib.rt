@@ -3,17 +3,23 @@
 
 mod apply;
 mod error;
+mod function;
+mod in_use;
 mod laws;
 mod numeral;
 mod sorts;
 mod symbol;
+mod terms;
 mod world;
 
 pub use error::TyError;
-pub use laws::sort_laws;
+pub use function::{AND, CoreFunction};
+pub use in_use::{is_fun_in_use, is_sort_in_use};
+pub use laws::{sort_laws, term_laws};
 pub use numeral::numeral_value;
-pub use sorts::type_sort;
+pub use sorts::{type_sort, type_sorts};
 pub use symbol::is_theory_sort;
+pub use terms::type_term;
 pub use world::World;
 
 #[cfg(test)]

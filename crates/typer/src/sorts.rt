@@ -1,5 +1,6 @@
 //! The sorts of raw sorts.
-ghost use Rattle.std.specs.Prelude.{◌≡◌, ◌<◌, ◌^◌, IfOk, OnOk, [], length, map};
+ghost use Rattle.std.specs.Prelude.{◌≡◌, ◌<◌, ◌^◌, IfOk, [], length, map};
+ghost use Rattle.std.specs.List.{All};
 ghost use Rattle.sort_store.specs.Interned.{IsInterned, AllInterned, HasNoRepeats, Grows};
 ghost use Rattle.sort_store.specs.Tree.{tree};
 ghost use Rattle.typer.specs.Answers.{Answers, tree_answer, trees_answer};
@@ -39,11 +40,12 @@ fn indexed_sort(
     name: Tok,
     indices: &RawIndices,
 ) -> Result<SortRef, TyError>
+    requires { HasNoRepeats world.old.sorts }
     ensures answer { Answers (tree_answer result)
         (judge_indexed world.old.names world.old.theories at (map tree args.now) name indices.now) }
     ensures interned { IfOk result (λ r. IsInterned world.new.sorts r) }
     ensures grows { Grows world.old.sorts world.new.sorts }
-    ensures distinct { OnOk result (HasNoRepeats world.new.sorts) }
+    ensures distinct { HasNoRepeats world.new.sorts }
     ensures others { world.new ≡ record world.old { sorts = world.new.sorts } }
 {
     if !is_bit_vector(&world.names, &world.theories, name.name) {
@@ -78,7 +80,7 @@ fn name_sort(
         (judge_name world.old.names (declarations_of world.old.scopes) world.old.theories params.now at (map tree args.now) name) }
     ensures interned { IfOk result (λ r. IsInterned world.new.sorts r) }
     ensures grows { Grows world.old.sorts world.new.sorts }
-    ensures distinct { OnOk result (HasNoRepeats world.new.sorts) }
+    ensures distinct { HasNoRepeats world.new.sorts }
     ensures others { world.new ≡ record world.old { sorts = world.new.sorts } }
 {
     if let Some(i) = parameter(params, name) {
@@ -144,7 +146,7 @@ fn identifier_sort(
         (judge_identifier world.old.names (declarations_of world.old.scopes) world.old.theories params.now at (map tree args.now) identifier.now) }
     ensures interned { IfOk result (λ r. IsInterned world.new.sorts r) }
     ensures grows { Grows world.old.sorts world.new.sorts }
-    ensures distinct { OnOk result (HasNoRepeats world.new.sorts) }
+    ensures distinct { HasNoRepeats world.new.sorts }
     ensures others { world.new ≡ record world.old { sorts = world.new.sorts } }
 {
     match identifier.kind() {
@@ -155,14 +157,21 @@ fn identifier_sort(
     }
 }
 
-// The sorts of raw sorts in order, or the first fault.
+/// The sorts of raw sorts in order, as `type_sort` gives each, or the first fault.
 #[cycle(sorts)]
 #[tactic(auto, using(crate::proofs::ReadyKept::ready_words))]
-fn type_sorts(world: &mut World, params: &[NameId], raws: RawSorts) -> Result<Vec<SortRef>, TyError>
+pub fn type_sorts(
+    world: &mut World,
+    params: &[NameId],
+    raws: RawSorts,
+) -> Result<Vec<SortRef>, TyError>
     requires ready { IsReady world.old }
     ensures answer { Answers (trees_answer result)
         (judge_sorts world.old.names (declarations_of world.old.scopes) world.old.theories params.now raws.entry) }
     ensures interned { IfOk result (λ v. AllInterned world.new.sorts v.items) }
+
+    // The sorts may stand in a declaration with these parameters.
+    ensures schema { IfOk result (λ v. All (IsReadySchema world.new.names world.new.sorts (length params.now)) v.items) }
     ensures grows { Grows world.old.sorts world.new.sorts }
     ensures others { world.new ≡ record world.old { sorts = world.new.sorts } }
     ensures ready { IsReady world.new }
@@ -192,7 +201,6 @@ pub fn type_sort(world: &mut World, params: &[NameId], raw: RawSort) -> Result<S
 
     // The sort may stand in a declaration with these parameters.
     ensures schema { IfOk result (λ r. IsReadySchema world.new.names world.new.sorts (length params.now) r) }
-    ensures distinct { OnOk result (HasNoRepeats world.new.sorts) }
     ensures grows { Grows world.old.sorts world.new.sorts }
     ensures others { world.new ≡ record world.old { sorts = world.new.sorts } }
     ensures ready { IsReady world.new }

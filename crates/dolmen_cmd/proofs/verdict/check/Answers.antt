@@ -1,6 +1,9 @@
-use Rattle.std.proofs.Common.{[]}
+use Rattle.std.proofs.Common.{[], arith}
 use Rattle.dolmen_cmd.proofs.Deciding.{feed_checks, finish_checks}
 use Rattle.dolmen_cmd.proofs.verdict.check.Goals as goal
+
+pub feed-requires-clause-short : goal.feed-requires-clause-short
+feed-requires-clause-short c = omega (arith, c.in-Ok.ensures.taken, c.requires)
 
 pub returns-in-Err-feed : goal.returns-in-Err-feed
 returns-in-Err-feed c = feed_checks c.args.bytes.now c.feed.new.self.checker.count c.in-Err-feed.stop (c.in-Err-feed.ensures.judged [] c.in-Ok.ensures.given)

@@ -1,16 +1,30 @@
 use Rattle.std.proofs.Common.{◌∙◌, ap, sym, Ok}
-use Rattle.script_core.specs.Checking.{environment_of}
 use Rattle.cmd_grammar.specs.CommandViews.{command_from}
-use Rattle.script_core.proofs.RuleMeanings.{tree_broken, tree_takes}
+use Rattle.script_core.specs.Checking.{environment_of}
+use Rattle.script_core.proofs.RuleMeanings.{command_named, tree_broken, tree_no_command, tree_refused, tree_takes}
 use Rattle.script_core.proofs.scope.take_tree.Goals as goal
 
-pub returns-in-Ok-perform : goal.returns-in-Ok-perform
-returns-in-Ok-perform c =
-    tree_takes (environment_of c.args.names.now c.args.scope.now) (environment_of c.args.names.now c.perform.new.scope) c.args.tree.now (command_from c.kind-command.result) c.at.result
-    c.in-Ok-perform.progress (c.in-Ok.ensures.0 ∙ ap Ok c.kind-command.ensures) (c.at.ensures ∙ c.in-Ok.ensures.1) (sym c.in-Ok-judge_command.ensures)
-    c.in-Ok-perform.ensures.effect c.in-Ok-perform.ensures.progress
+pub returns-in-Err-Fault-clause-answer : goal.returns-in-Err-Fault-clause-answer
+returns-in-Err-Fault-clause-answer c = let fault = c.in-Err-Fault in
+    tree_no_command (environment_of c.args.scope.now.world.names c.args.scope.now) c.args.tree.now fault.field-0 fault.place fault.field-0-is fault.ensures
 
-pub returns-in-Err : goal.returns-in-Err
-returns-in-Err c =
-    tree_broken (environment_of c.args.names.now c.args.scope.now) c.args.tree.now (command_from c.kind-command.result) c.at.result
+pub returns-in-Err-clause-answer : goal.returns-in-Err-clause-answer
+returns-in-Err-clause-answer c =
+    tree_broken (environment_of c.args.scope.now.world.names c.args.scope.now) c.args.tree.now (command_from c.kind-command.result) c.at.result
     c.in-Err.place (c.in-Ok.ensures.0 ∙ ap Ok c.kind-command.ensures) (c.at.ensures ∙ c.in-Ok.ensures.1) (sym c.in-Err.ensures)
+
+pub take_parts-requires-clause-named : goal.take_parts-requires-clause-named
+take_parts-requires-clause-named c =
+    command_named c.args.scope.now.world.names c.args.tree.now (command_from c.kind-command.result) c.requires.interned (c.in-Ok.ensures.0 ∙ ap Ok c.kind-command.ensures)
+
+pub returns-in-Ok-take_parts-clause-answer : goal.returns-in-Ok-take_parts-clause-answer
+returns-in-Ok-take_parts-clause-answer c = let names = c.args.scope.now.world.names in
+    tree_takes (environment_of names c.args.scope.now) (environment_of names c.take_parts.new.scope) c.args.tree.now (command_from c.kind-command.result) c.at.result
+    c.progress_after-progress.result (c.in-Ok.ensures.0 ∙ ap Ok c.kind-command.ensures) (c.at.ensures ∙ c.in-Ok.ensures.1) (sym c.in-Ok-judge_command.ensures)
+    c.in-Ok-take_parts.ensures.answer c.progress_after-progress.ensures
+
+pub returns-in-Err-take_parts-clause-answer : goal.returns-in-Err-take_parts-clause-answer
+returns-in-Err-take_parts-clause-answer c = let names = c.args.scope.now.world.names in
+    tree_refused (environment_of names c.args.scope.now) (environment_of names c.take_parts.new.scope) c.args.tree.now (command_from c.kind-command.result) c.at.result
+    c.in-Err-take_parts.error (c.in-Ok.ensures.0 ∙ ap Ok c.kind-command.ensures) (c.at.ensures ∙ c.in-Ok.ensures.1) (sym c.in-Ok-judge_command.ensures)
+    c.in-Err-take_parts.ensures.answer

@@ -1,9 +1,9 @@
-use Rattle.std.proofs.Common.{sym, ap, subst, arith}
+use Rattle.std.proofs.Common.{sym, ap, subst, arith, Ok}
 use Rattle.std.proofs.lemmas.Result.{err_from_is_err_and}
 use Rattle.sort_store.proofs.GrownStores.{grows_more, all_interned_push, all_interned_grown}
 use Rattle.sort_store.specs.Interned.{AllInterned}
 use Rattle.typer.proofs.SortSteps.{sizes, left, left_is, others_more, of_identifier, of_applied, turn_step, turn_fault, no_turn}
-use Rattle.typer.proofs.SortsReady.{schema_of}
+use Rattle.typer.proofs.SortsReady.{schema_of, schemas_of}
 use Rattle.typer.proofs.sorts.+sorts.Goals as goal
 
 pub type_sort-returns-in-Identifier-clause-schema : goal.type_sort-returns-in-Identifier-clause-schema
@@ -50,3 +50,8 @@ type_sorts-loop-next-preserved t c =
 
 pub type_sorts-returns-clause-answer : goal.type_sorts-returns-clause-answer
 type_sorts-returns-clause-answer t c = no_turn c.args.world.now c.args.params.now c.args.raws (left c.loop-next.next) c.loop-next.sorts.items (ap left c.in_default.is) c.loop-next.invariant.onward
+
+pub type_sorts-returns-clause-schema : goal.type_sorts-returns-clause-schema
+type_sorts-returns-clause-schema t c =
+    schemas_of c.args.world.now c.loop-next.world c.args.params.now c.args.raws (Ok c.loop-next.sorts) c.requires.ready c.loop-next.invariant.others
+    (no_turn c.args.world.now c.args.params.now c.args.raws (left c.loop-next.next) c.loop-next.sorts.items (ap left c.in_default.is) c.loop-next.invariant.onward) c.loop-next.invariant.interned

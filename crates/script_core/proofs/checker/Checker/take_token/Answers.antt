@@ -1,5 +1,12 @@
-use Rattle.script_core.proofs.TakingTokens.{broken_token, ended_list, refused_list, taken_inside, taken_list}
+use Rattle.script_core.proofs.TakingTokens.{broken_token, ended_list, refused_list, taken_inside, taken_list, tree_interned}
 use Rattle.script_core.proofs.checker.Checker.take_token.Goals as goal
+
+pub take_list-requires-clause-interned : goal.take_list-requires-clause-interned
+take_list-requires-clause-interned c = let some = c.in-Ok-Some in
+    tree_interned c.args.self.now c.args.tok some.field-0 some.tree c.requires.interned c.requires.awaits.1.follows.interned some.field-0-is (some.ensures.tree c.requires.awaits.1.follows.no_error)
+
+pub take_list-requires-clause-stands : goal.take_list-requires-clause-stands
+take_list-requires-clause-stands c = let f = c.requires.awaits.1.follows in record { ready = f.ready; core = f.core }
 
 pub returns-in-Ok-None-clause-more : goal.returns-in-Ok-None-clause-more
 returns-in-Ok-None-clause-more c = λ tokens awaits. let none = c.in-Ok-None in
@@ -7,7 +14,7 @@ returns-in-Ok-None-clause-more c = λ tokens awaits. let none = c.in-Ok-None in
 
 pub returns-in-Ok-Some-clause-more : goal.returns-in-Ok-Some-clause-more
 returns-in-Ok-Some-clause-more c = let some = c.in-Ok-Some in let list = c.take_list.ensures in
-    taken_list c.args.self.now c.take_list.new.self c.args.tok some.field-0 some.tree c.take.new.self c.take_list.result c.requires.table c.requires.interned some.field-0-is some.ensures.tree some.ensures.emptied list.same.2 list.same.0 list.ok list.counted
+    taken_list c.args.self.now c.take_list.new.self c.args.tok some.field-0 some.tree c.take.new.self c.take_list.result c.requires.table c.requires.interned some.field-0-is some.ensures.tree some.ensures.emptied list.same.2 list.same.0 list.ok list.counted list.stands
 
 pub returns-in-Ok-Some-clause-ended : goal.returns-in-Ok-Some-clause-ended
 returns-in-Ok-Some-clause-ended c = let some = c.in-Ok-Some in let list = c.take_list.ensures in

@@ -1,6 +1,6 @@
 use Rattle.std.proofs.Common.{◌≡◌, ◌≤◌}
 use Rattle.script_core.specs.RuleAnswers.{answer_all_built, terms_left, term_size, terms_size}
-use Rattle.script_core.proofs.terms.+built.Given as goal
+use Rattle.script_core.proofs.rules.+built.Given as goal
 
 abbrev pub decreases-judge_built : goal.decreases-judge_built
 decreases-judge_built l = term_size l.term.now

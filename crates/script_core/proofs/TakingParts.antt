@@ -1,0 +1,254 @@
+-- What the parts of a command lead to, from what the calls answer.
+use Rattle.std.proofs.Common.{◌≡◌, ℕ, ◌+◌, ◌<◌, ◌==◌, ◌||◌, Bool, true, false, List, [], ◌∷◌, ◌++◌, map, length, Option, Some, None, Result, Ok, Err, refl, ap, sym, ◌∙◌, subst, inl, inr, arith, append_assoc, slice_index_or, if◌then◌else◌}
+use Rattle.std.specs.Prelude.{IfErr, OnOk}
+use Rattle.std.specs.List.{All, list_any}
+use Rattle.std.proofs.lemmas.List.{length-map}
+use Rattle.std.proofs.lemmas.Bool.{eqb-true, false≢true}
+use Rattle.lex_core.specs.declared.token.Tok.{Tok}
+use Rattle.sig_table.specs.declared.code.Code.TheVariants as code
+use Rattle.sig_table.specs.declared.theories.Theories.{Theories}
+use Rattle.sexp_core.specs.Sexp.{Sexp}
+use Rattle.judgement.specs.Judging.{Judging, Outcome, ◌>>=◌, done, ill_sorted, well_sorted}
+use Rattle.sort_store.specs.Tree.{NumberedSort, tree}
+use Rattle.scope_stack.specs.declared.entry.FunEntry.{FunEntry}
+use Rattle.scope_stack.specs.declared.entry.SortEntry.{SortEntry}
+use Rattle.scope_stack.specs.Environment.{Environment as Scopes}
+use Rattle.scope_stack.specs.Environment as scopes
+use Rattle.typer.specs.Answers as typer
+use Rattle.typer.specs.Declarations.{Declarations, declarations_of, fun_declaration, sort_declaration, with_fun, with_global, with_popped, with_pushed, with_sort}
+use Rattle.typer.specs.FunctionSymbols.{is_fun_in_use, is_sort_in_use}
+use Rattle.typer.proofs.ReadyKept.{schema_grown}
+use Rattle.typer.specs.Ready.{IsReady, IsReadySchema, IsReadyFunEntry, IsReadySortEntry}
+use Rattle.typer.specs.SortSymbols.{is_theory_sort}
+use Rattle.typer.specs.declared.error.TyError.{TyError}
+use Rattle.typer.specs.declared.error.TyError.TheVariants as ty
+use Rattle.typer.specs.declared.world.World.{World}
+use Rattle.typer.proofs.DeclarationsByTrees.{fun_by_trees, popped_by_trees, pushed_by_trees, sort_by_trees}
+use Rattle.typer.proofs.ReadyCalls.{ready_declared, ready_with_fun, ready_with_popped, ready_with_pushed, ready_without_assertions}
+use Rattle.term_grammar.specs.AttributeViews.{attribute_kind}
+use Rattle.term_grammar.specs.IdentifierViews.{SplitsTokens}
+use Rattle.cmd_grammar.specs.Commands.{declare_fun, define_sort}
+use Rattle.term_grammar.specs.Syntax.{Sort, Sorts, Attribute, keyword_attribute, valued_attribute}
+use Rattle.term_grammar.specs.declared.attribute.RawAttributeKind.TheVariants as kind
+use Rattle.term_grammar.specs.declared.words.TheConstants.{GLOBAL_DECLARATIONS}
+use Rattle.script_core.specs.declared.scope.Scope.{Scope}
+use Rattle.script_core.specs.declared.scope.StepError.{StepError}
+use Rattle.script_core.specs.declared.scope.StepError.TheVariants as error
+use Rattle.script_core.specs.Checking.{IsReadyCore, environment_of}
+use Rattle.script_core.specs.Effects.{Answers, AnswersParts, AnswersSort, AnswersSorts, OnlySortsGrow, step_error_of}
+use Rattle.script_core.specs.Environment.{Environment, core_alone}
+use Rattle.script_core.specs.RuleAnswers.{tokens_left}
+use Rattle.script_core.specs.Rules.{after_option, is_true, judge_params, with_defined_sort, with_function}
+
+-- a part that is met, and what comes after it
+pub then_ok : {A B C : Type 0} (J : Judging A) (K : A → Judging B) (g : C → B) (x : A) (r : Result C StepError) → J [] (well_sorted x []) → Answers (K x) g r → Answers (J >>= K) g r
+then_ok J K g x (Ok y) j k = (x, [], j, k)
+then_ok J K g x (Err (error.Broken p)) j k = inr (x, [], j, k)
+then_ok J K g x (Err error.NoMemory) j k = tt
+
+pub then_err : {A B C D : Type 0} (J : Judging A) (K : A → Judging B) (f : C → A) (g : D → B) (e : StepError) → Answers J f (Err e) → Answers (J >>= K) g (Err e)
+then_err J K f g (error.Broken p) j = inl j
+then_err J K f g error.NoMemory j = tt
+
+-- the value, with no further part
+pub value_of_done : {B C : Type 0} (g : C → B) (x : B) (r : Result C StepError) → ((y : C) → r ≡ Ok y → g y ≡ x) → ((e : StepError) → r ≡ Err e → e ≡ error.NoMemory) → Answers (done x) g r
+value_of_done g x (Ok y) h k = (h y refl, refl)
+value_of_done g x (Err (error.Broken p)) h k = let e = k (error.Broken p) refl in cc
+value_of_done g x (Err error.NoMemory) h k = tt
+
+-- what the typer answers under Core alone
+pub told_ok : {B : Type 0} (J : Theories → Judging B) (theories : Theories) (x : B) → theories ≡ core_alone → ((before : List ℕ) → J theories before (well_sorted x before)) → J core_alone [] (well_sorted x [])
+told_ok J theories x core h = subst (λ (t : Theories). J t [] (well_sorted x [])) core (h [])
+
+pub told_err : {B C : Type 0} (J : Theories → Judging B) (f : C → B) (theories : Theories) (e : TyError) (s : StepError) → theories ≡ core_alone → typer.Answers (Err e) (J theories) → s ≡ step_error_of e → Answers (J core_alone) f (Err s)
+told_err J f theories (ty.Fault place) s core h same = rw same (subst (λ (t : Theories). J t [] (ill_sorted place)) core (h []))
+told_err J f theories ty.NoMemory s core h same = rw same tt
+
+-- the world with other scopes
+abbrev pub with_scopes : Scopes → Scope → Scope
+with_scopes s scope = record scope { world = record scope.world { scopes = s } }
+
+pub fun_stands : (world : World) (s : Scopes) (name : ℕ) (d : FunEntry) → IsReadyCore world → s ≡ scopes.with_fun name d world.scopes → name < length world.names → IsReadyFunEntry world.names world.sorts d
+    → IsReadyCore (record world { scopes = s })
+fun_stands world s name d h e named entry = record {
+  ready = subst (λ (x : Scopes). IsReady (record world { scopes = x })) (sym e) (ready_with_fun world h.ready name d (record { name = named; entry = entry }));
+  core = h.core;
+}
+
+pub sort_stands : (world : World) (s : Scopes) (name : ℕ) (d : SortEntry) → IsReadyCore world → s ≡ scopes.with_sort name d world.scopes → name < length world.names
+    → is_theory_sort world.names world.theories name ≡ false → IsReadySortEntry world.names world.sorts d → IsReadyCore (record world { scopes = s })
+sort_stands world s name d h e named free entry = record { ready = ready_declared world s name d e h.ready named free entry; core = h.core }
+
+pub pushed_stands : (world : World) (s : Scopes) (n : ℕ) → IsReadyCore world → s ≡ scopes.with_pushed n world.scopes → IsReadyCore (record world { scopes = s })
+pushed_stands world s n h e = record { ready = subst (λ (x : Scopes). IsReady (record world { scopes = x })) (sym e) (ready_with_pushed world h.ready n); core = h.core }
+
+pub popped_stands : (world : World) (s : Scopes) (n : ℕ) → IsReadyCore world → s ≡ scopes.with_popped n world.scopes → IsReadyCore (record world { scopes = s })
+popped_stands world s n h e = record { ready = subst (λ (x : Scopes). IsReady (record world { scopes = x })) (sym e) (ready_with_popped world h.ready n); core = h.core }
+
+pub forgotten_stands : (world : World) (s : Scopes) → IsReadyCore world → s ≡ scopes.without_assertions world.scopes → IsReadyCore (record world { scopes = s })
+forgotten_stands world s h e = record { ready = subst (λ (x : Scopes). IsReady (record world { scopes = x })) (sym e) (ready_without_assertions world h.ready); core = h.core }
+
+-- the environment where declarations have changed
+pub declared_env : (names : List (List ℕ)) (old : Scope) (s : Scopes) (next : ℕ) (d : Declarations) → declarations_of s ≡ d
+    → environment_of names (record (with_scopes s old) { next = next }) ≡ record (environment_of names old) { declarations = d; next = next }
+declared_env names old s next d e = ap (λ (x : Declarations). record (environment_of names old) { declarations = x; next = next }) e
+
+pub added_env : (names : List (List ℕ)) (old : Scope) (s : Scopes) (next : ℕ) (d : Declarations) → declarations_of s ≡ d → next ≡ old.next + 1
+    → environment_of names (record (with_scopes s old) { next = next }) ≡ record (environment_of names old) { declarations = d; next = old.next + 1 }
+added_env names old s next d e more = declared_env names old s next d e ∙ ap (λ (n : ℕ). record (environment_of names old) { declarations = d; next = n }) more
+
+pub fun_added : (name : ℕ) (d : FunEntry) (old s : Scopes) → s ≡ scopes.with_fun name d old → declarations_of s ≡ with_fun name (fun_declaration d) (declarations_of old)
+fun_added name d old s e = ap declarations_of e ∙ fun_by_trees name d old
+
+pub sort_added : (name : ℕ) (d : SortEntry) (old s : Scopes) → s ≡ scopes.with_sort name d old → declarations_of s ≡ with_sort name (sort_declaration d) (declarations_of old)
+sort_added name d old s e = ap declarations_of e ∙ sort_by_trees name d old
+
+pub levels_pushed : (n : ℕ) (old s : Scopes) → s ≡ scopes.with_pushed n old → declarations_of s ≡ with_pushed n (declarations_of old)
+levels_pushed n old s e = ap declarations_of e ∙ pushed_by_trees n old
+
+pub levels_popped : (n : ℕ) (old s : Scopes) → s ≡ scopes.with_popped n old → declarations_of s ≡ with_popped n (declarations_of old)
+levels_popped n old s e = ap declarations_of e ∙ popped_by_trees n old
+
+-- nothing but sorts is new
+pub same_env : (names : List (List ℕ)) (old new : Scope) → OnlySortsGrow old new → environment_of names new ≡ environment_of names old
+same_env names old new g = ap (environment_of names) g.others
+
+pub same_names : (old new : Scope) → OnlySortsGrow old new → new.world.names ≡ old.world.names
+same_names old new g = ap (λ (s : Scope). s.world.names) g.others
+
+pub here_env : (old new : Scope) → OnlySortsGrow old new → environment_of new.world.names new ≡ environment_of old.world.names old
+here_env old new g = ap (λ (s : Scope). environment_of s.world.names s) g.others
+
+-- an option that sets the global flag, another one, and one without a value
+after_valued : (env : Environment) (a : Attribute) (k : Tok) (v : Sexp Tok) → attribute_kind a ≡ kind.Valued k v → a ≡ valued_attribute k v
+after_valued env (keyword_attribute j) k v e = cc
+after_valued env (valued_attribute j u) k v e = cc
+
+chosen : (env : Environment) (b : Bool) (v : Sexp Tok) → b ≡ true → record env { declarations = with_global (is_true v) env.declarations } ≡ (if b then record env { declarations = with_global (is_true v) env.declarations } else env)
+chosen env true v e = refl
+chosen env false v e = cc
+
+left_alone : (env : Environment) (b : Bool) (v : Sexp Tok) → (b ≡ true → ⊥) → env ≡ (if b then record env { declarations = with_global (is_true v) env.declarations } else env)
+left_alone env true v e = absurd (e refl)
+left_alone env false v e = refl
+
+pub option_set : (names : List (List ℕ)) (old : Scope) (s : Scopes) (on : Bool) (a : Attribute) (k : Tok) (v : Sexp Tok) → s ≡ scopes.with_global on old.world.scopes → on ≡ is_true v → attribute_kind a ≡ kind.Valued k v
+    → k.name ≡ GLOBAL_DECLARATIONS → environment_of names (with_scopes s old) ≡ after_option (environment_of names old) a
+option_set names old s on a k v set true_is e named =
+    let env = environment_of names old in
+    ap (λ (x : Scopes). environment_of names (with_scopes x old)) set
+    ∙ (ap (λ (b : Bool). record env { declarations = with_global b env.declarations }) true_is
+    ∙ (chosen env (k.name == GLOBAL_DECLARATIONS) v (ap (λ (n : ℕ). n == GLOBAL_DECLARATIONS) named)
+    ∙ ap (after_option env) (sym (after_valued env a k v e))))
+
+pub option_other : (env : Environment) (a : Attribute) (k : Tok) (v : Sexp Tok) → attribute_kind a ≡ kind.Valued k v → (k.name ≡ GLOBAL_DECLARATIONS → ⊥) → env ≡ after_option env a
+option_other env a k v e other =
+    left_alone env (k.name == GLOBAL_DECLARATIONS) v (λ h. other (eqb-true k.name GLOBAL_DECLARATIONS h)) ∙ ap (after_option env) (sym (after_valued env a k v e))
+
+pub option_alone : (env : Environment) (a : Attribute) (k : Tok) → attribute_kind a ≡ kind.Keyword k → env ≡ after_option env a
+option_alone env (keyword_attribute j) k e = refl
+option_alone env (valued_attribute j u) k e = cc
+
+-- a name that is in use neither in Core nor in the scopes
+pub first_false : (a b : Bool) → (a || b) ≡ false → a ≡ false
+first_false true b e = e
+first_false false b e = refl
+
+-- the parameters that are left, after some that are not repeated
+pub param_step : (ids : List ℕ) (p : Tok) (ps : List Tok) → list_any (λ n. n == p.name) ids ≡ false → (o : Outcome (Unit {0})) → judge_params (ids ++ p.name ∷ []) ps [] o → judge_params ids (p ∷ ps) [] o
+param_step ids p ps e (well_sorted u after) h = (tt, [], (e, refl), h)
+param_step ids p ps e (ill_sorted place) h = inr (tt, [], (e, refl), h)
+
+pub param_repeated : (ids : List ℕ) (p : Tok) (ps : List Tok) → list_any (λ n. n == p.name) ids ≡ true → judge_params ids (p ∷ ps) [] (ill_sorted (record { code = code.RepeatedVariable; at = p.at }))
+param_repeated ids p ps e = inl ((λ h. false≢true (sym h ∙ e)), refl)
+
+tokens_split : (ts : List Tok) (o : Option (Tok × List Tok)) → SplitsTokens ts o → ts ≡ tokens_left o
+tokens_split ts None e = e
+tokens_split ts (Some p) e = e
+
+-- one parameter more
+pub params_onward : (ids new : List ℕ) (all left : List Tok) (p : Tok) (rest : List Tok) (next : Option (Tok × List Tok)) → left ≡ p ∷ rest → SplitsTokens rest next → list_any (λ n. n == p.name) ids ≡ false → new ≡ ids ++ p.name ∷ []
+    → ((o : Outcome (Unit {0})) → judge_params ids left [] o → judge_params [] all [] o) → (o : Outcome (Unit {0})) → judge_params new (tokens_left next) [] o → judge_params [] all [] o
+params_onward ids new all left p rest next e split fresh more onward o h =
+    onward o (subst (λ (ts : List Tok). judge_params ids ts [] o) (sym e) (param_step ids p rest fresh o
+    (subst (λ (ts : List Tok). judge_params (ids ++ p.name ∷ []) ts [] o) (sym (tokens_split rest next split)) (subst (λ (ns : List ℕ). judge_params ns (tokens_left next) [] o) more h))))
+
+pub names_onward : (ids new : List ℕ) (all left : List Tok) (p : Tok) (rest : List Tok) (next : Option (Tok × List Tok)) → left ≡ p ∷ rest → SplitsTokens rest next → new ≡ ids ++ p.name ∷ []
+    → ids ++ map (λ q. q.name) left ≡ map (λ q. q.name) all → new ++ map (λ q. q.name) (tokens_left next) ≡ map (λ q. q.name) all
+names_onward ids new all left p rest next e split more names =
+    ap (λ (ns : List ℕ). ns ++ map (λ q. q.name) (tokens_left next)) more
+    ∙ (append_assoc ids (p.name ∷ []) (map (λ q. q.name) (tokens_left next))
+    ∙ (ap (λ (ts : List Tok). ids ++ p.name ∷ map (λ q. q.name) ts) (sym (tokens_split rest next split))
+    ∙ (ap (λ (ts : List Tok). ids ++ map (λ q. q.name) ts) (sym e) ∙ names)))
+
+-- a parameter is repeated
+pub params_broken : (ids : List ℕ) (all left : List Tok) (p : Tok) (rest : List Tok) → left ≡ p ∷ rest → list_any (λ n. n == p.name) ids ≡ true
+    → ((o : Outcome (Unit {0})) → judge_params ids left [] o → judge_params [] all [] o) → judge_params [] all [] (ill_sorted (record { code = code.RepeatedVariable; at = p.at }))
+params_broken ids all left p rest is seen onward =
+    let fault = ill_sorted (record { code = code.RepeatedVariable; at = p.at }) in onward fault (subst (λ (ts : List Tok). judge_params ids ts [] fault) (sym is) (param_repeated ids p rest seen))
+
+pub no_items : {X : Type 0} (xs : List X) → length xs ≡ 0 → xs ≡ []
+no_items [] e = refl
+no_items (x ∷ xs) e = absurd (omega (arith, e))
+
+-- sorts that may stand in a declaration still may where sorts are new
+pub schemas_later : (old new : Scope) (rs : List NumberedSort) → OnlySortsGrow old new → All (IsReadySchema old.world.names old.world.sorts 0) rs → All (IsReadySchema new.world.names new.world.sorts 0) rs
+schemas_later old new rs g h =
+    λ k d l. subst (λ (ns : List (List ℕ)). IsReadySchema ns new.world.sorts 0 (slice_index_or rs k d)) (sym (same_names old new g)) (schema_grown old.world.names old.world.sorts new.world.sorts g.grows 0 _ (h k d l))
+
+-- the declaration of a function, once its sorts are made
+pub fun_answer : (old mid near new : Scope) (n : Tok) (ss : Sorts) (s : Sort) (args : List NumberedSort) (sort : NumberedSort) (r : Result (Unit {0}) StepError)
+    → is_fun_in_use (declarations_of old.world.scopes) n.name ≡ false → AnswersSorts (environment_of old.world.names old) ss (Ok args) → OnlySortsGrow old mid
+    → AnswersSort (environment_of mid.world.names mid) [] s (Ok sort) → OnlySortsGrow mid near
+    → OnOk r (environment_of near.world.names new ≡ with_function (environment_of near.world.names near) n.name (map tree args) (tree sort))
+    → IfErr r (λ e. e ≡ error.NoMemory) → AnswersParts (environment_of old.world.names old) (declare_fun n ss s) r (environment_of old.world.names new)
+fun_answer old mid near new n ss s args sort (Err error.NoMemory) fresh given grown sorted more effect none = tt
+fun_answer old mid near new n ss s args sort (Err (error.Broken p)) fresh given grown sorted more effect none = cc
+fun_answer old mid near new n ss s args sort (Ok u) fresh given grown sorted more effect none =
+    let here = here_env old mid grown in
+    let names : near.world.names ≡ old.world.names = same_names mid near more ∙ same_names old mid grown in (
+      tt,
+      [],
+      (fresh, refl),
+      (
+        map tree args,
+        [],
+        given,
+        (
+          tree sort,
+          [],
+          subst (λ (e : Environment). AnswersSort e [] s (Ok sort)) here sorted,
+          (ap (λ (ns : List (List ℕ)). environment_of ns new) (sym names) ∙ (effect ∙ ap (λ (e : Environment). with_function e n.name (map tree args) (tree sort)) (here_env mid near more ∙ here)), refl),
+        ),
+      ),
+    )
+
+-- the definition of a sort, once its body is made
+pub sort_answer : (old near new : Scope) (n : Tok) (ps : List Tok) (s : Sort) (ids : List ℕ) (sort : NumberedSort) (count : ℕ) (r : Result (Unit {0}) StepError)
+    → is_sort_in_use old.world.names (declarations_of old.world.scopes) core_alone n.name ≡ false → judge_params [] ps [] (well_sorted tt []) → ids ≡ map (λ q. q.name) ps
+    → AnswersSort (environment_of old.world.names old) ids s (Ok sort) → OnlySortsGrow old near → count ≡ length ids
+    → OnOk r (environment_of near.world.names new ≡ with_defined_sort (environment_of near.world.names near) n.name count (tree sort))
+    → IfErr r (λ e. e ≡ error.NoMemory) → AnswersParts (environment_of old.world.names old) (define_sort n ps s) r (environment_of old.world.names new)
+sort_answer old near new n ps s ids sort count (Err error.NoMemory) fresh apart named sorted more counted effect none = tt
+sort_answer old near new n ps s ids sort count (Err (error.Broken p)) fresh apart named sorted more counted effect none = cc
+sort_answer old near new n ps s ids sort count (Ok u) fresh apart named sorted more counted effect none =
+    let number : count ≡ length ps = counted ∙ (ap length named ∙ length-map ps _) in (
+      tt,
+      [],
+      (fresh, refl),
+      (
+        tt,
+        [],
+        apart,
+        (
+          tree sort,
+          [],
+          subst (λ (ns : List ℕ). AnswersSort (environment_of old.world.names old) ns s (Ok sort)) named sorted,
+          (
+            ap (λ (ns : List (List ℕ)). environment_of ns new) (sym (same_names old near more)) ∙ (effect
+                ∙ (ap (λ (e : Environment). with_defined_sort e n.name count (tree sort)) (here_env old near more) ∙ ap (λ (m : ℕ). with_defined_sort (environment_of old.world.names old) n.name m (tree sort)) number)),
+            refl,
+          ),
+        ),
+      ),
+    )

@@ -1,0 +1,55 @@
+-- What the parts of a command answer, and what they lead to.
+use Rattle.std.specs.Prelude.{◌≡◌, ℕ, ◌<◌, List, [], length, map, Result, Ok, Err}
+use Rattle.judgement.specs.Judging.{Judging, ill_sorted, well_sorted}
+use Rattle.sort_store.specs.Interned.{Grows}
+use Rattle.sort_store.specs.Tree.{NumberedSort, tree}
+use Rattle.term_grammar.specs.Syntax.{Sort, Sorts, Term}
+use Rattle.cmd_grammar.specs.Commands.{Command, declare_const, declare_fun, declare_sort, define_sort}
+use Rattle.typer.specs.SortRules.{judge_sort, judge_sorts}
+use Rattle.typer.specs.TermRules.{judge_term}
+use Rattle.typer.specs.declared.error.TyError.{TyError}
+use Rattle.typer.specs.declared.error.TyError.TheVariants as ty
+use Rattle.script_core.specs.declared.scope.Scope.{Scope}
+use Rattle.script_core.specs.declared.scope.StepError.{StepError}
+use Rattle.script_core.specs.declared.scope.StepError.TheVariants as error
+use Rattle.script_core.specs.Environment.{Environment, core_alone}
+use Rattle.script_core.specs.Rules.{judge_parts}
+
+-- Ok has what the judgement leads to, a broken rule is its fault, and want of memory says nothing. No name is declared by an
+-- annotation.
+abbrev pub Answers : {A B : Type 0} → Judging B → (A → B) → Result A StepError → Type 0
+Answers J value (Ok x) = J [] (well_sorted (value x) [])
+Answers J value (Err (error.Broken place)) = J [] (ill_sorted place)
+Answers J value (Err error.NoMemory) = Unit {0}
+
+-- the command leads from old to new, or breaks a rule
+abbrev pub AnswersParts : Environment → Command → Result (Unit {0}) StepError → Environment → Type 0
+AnswersParts old command result new = Answers (judge_parts old command) (λ _. new) result
+
+-- the sort of a raw sort under the parameters of the command, of some raw sorts, and of a term
+abbrev pub AnswersSort : Environment → List ℕ → Sort → Result NumberedSort StepError → Type 0
+AnswersSort env params s result = Answers (judge_sort env.names env.declarations core_alone params s) tree result
+
+abbrev pub AnswersSorts : Environment → Sorts → Result (List NumberedSort) StepError → Type 0
+AnswersSorts env ss result = Answers (judge_sorts env.names env.declarations core_alone [] ss) (λ rs. map tree rs) result
+
+abbrev pub AnswersTerm : Environment → Term → Result NumberedSort StepError → Type 0
+AnswersTerm env t result = Answers (judge_term env.names env.declarations core_alone t) tree result
+
+-- why a command is not accepted whose sort or term has no sort
+abbrev pub step_error_of : TyError → StepError
+step_error_of (ty.Fault place) = error.Broken place
+step_error_of ty.NoMemory = error.NoMemory
+
+-- the store of sorts has grown, and all else is as it was
+pub record OnlySortsGrow (old new : Scope) : Type 0 where
+  pub others : new ≡ record old { world = record old.world { sorts = new.world.sorts } }
+  pub grows : Grows old.world.sorts new.world.sorts
+
+-- the name that the command declares is in the table
+abbrev pub IsDeclaredNamed : List (List ℕ) → Command → Type 0
+IsDeclaredNamed texts (declare_const n s) = n.name < length texts
+IsDeclaredNamed texts (declare_fun n ss s) = n.name < length texts
+IsDeclaredNamed texts (declare_sort n a) = n.name < length texts
+IsDeclaredNamed texts (define_sort n ps s) = n.name < length texts
+IsDeclaredNamed texts command = Unit {0}
