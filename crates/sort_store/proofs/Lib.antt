@@ -7,3 +7,4 @@ pub mod KeyLookup
 pub mod KeyedStores
 pub mod InstanceLaws
 pub mod MatchingLaws
+pub mod MatchingLists

@@ -47,7 +47,7 @@ value_at_set_other (v ∷ b) (suc i) (suc j) o n = value_at_set_other b i j o (�
 some_same : (v w : NumberedSort) (o : Option NumberedSort) → o ≡ Some v → o ≡ Some w → v ≡ w
 some_same v w o p q = cc
 
-agrees_less : (old new : Binding) (ss : List Sort) → Agrees new ss → length new ≡ length old → ((i : ℕ) (v : NumberedSort) → value_at old i ≡ Some v → value_at new i ≡ Some v) → Agrees old ss
+pub agrees_less : (old new : Binding) (ss : List Sort) → Agrees new ss → length new ≡ length old → ((i : ℕ) (v : NumberedSort) → value_at old i ≡ Some v → value_at new i ≡ Some v) → Agrees old ss
 agrees_less old new ss a count keeps = record { count = a.count ∙ count; same = λ i v e. a.same i v (keeps i v e) }
 
 -- a schema that is a parameter
@@ -116,7 +116,7 @@ param_in_each [] k d j l p = absurd (omega arith)
 param_in_each (x ∷ xs) zero d j l p = inl p
 param_in_each (x ∷ xs) (suc k) d j l p = inr (param_in_each xs k d j (omega arith) p)
 
-param_somewhere : (P : Type 0) (xs : List NumberedSort) (j : ℕ) → ((k : ℕ) (d : NumberedSort) → k < length xs → ParamIn j (tree (get_or xs k d)) → P) → ParamInEach j (trees (nodes xs)) → P
+pub param_somewhere : (P : Type 0) (xs : List NumberedSort) (j : ℕ) → ((k : ℕ) (d : NumberedSort) → k < length xs → ParamIn j (tree (get_or xs k d)) → P) → ParamInEach j (trees (nodes xs)) → P
 param_somewhere P [] j f p = absurd p
 param_somewhere P (x ∷ xs) j f (inl p) = f 0 x (omega arith) p
 param_somewhere P (x ∷ xs) j f (inr p) = param_somewhere P xs j (λ k d l. f (suc k) d (omega arith)) p
@@ -190,17 +190,17 @@ answers_node false old new h g m xs ys none same c t =
     λ f. t f.values f.agree (each_from_insts f.values xs ys (same_parts h g (insts f.values (trees (nodes xs))) (trees (nodes ys)) (inst_head f.values h g (trees (nodes xs)) (trees (nodes ys)) none f.makes)))
 
 -- any sort for a parameter with no value
-abbrev fill : Sort → Binding → List Sort
+abbrev pub fill : Sort → Binding → List Sort
 fill d [] = []
 fill d (Some v ∷ b) = tree v ∷ fill d b
 fill d (None ∷ b) = d ∷ fill d b
 
-fill_length : (d : Sort) (b : Binding) → length (fill d b) ≡ length b
+pub fill_length : (d : Sort) (b : Binding) → length (fill d b) ≡ length b
 fill_length d [] = refl
 fill_length d (Some v ∷ b) = ap suc (fill_length d b)
 fill_length d (None ∷ b) = ap suc (fill_length d b)
 
-fill_at : (d : Sort) (b : Binding) (i : ℕ) (v : NumberedSort) → value_at b i ≡ Some v → slice_get (fill d b) i ≡ Some (tree v)
+pub fill_at : (d : Sort) (b : Binding) (i : ℕ) (v : NumberedSort) → value_at b i ≡ Some v → slice_get (fill d b) i ≡ Some (tree v)
 fill_at d [] i v e = cc
 fill_at d (Some w ∷ b) zero v e = let s : w ≡ v = cc in ap (λ z. Some (tree z)) s
 fill_at d (None ∷ b) zero v e = cc

@@ -1,9 +1,9 @@
 -- A binding gives some parameters a sort. A schema fits a sort where some sorts for all parameters
 -- that agree with the binding make the schema the sort.
-use Rattle.std.specs.Prelude.{◌≡◌, ℕ, zero, suc, ◌⊎◌, List, [], ◌∷◌, Option, Some, None, slice_get, length}
-use Rattle.sort_store.specs.Tree.{Sort, sort, SortList, no_sorts, more_sorts, NumberedSort, tree}
+use Rattle.std.specs.Prelude.{◌≡◌, ℕ, zero, suc, ◌⊎◌, List, [], ◌∷◌, map, Option, Some, None, slice_get, length}
+use Rattle.sort_store.specs.Tree.{Sort, sort, SortList, no_sorts, more_sorts, sorts, NumberedSort, tree}
 use Rattle.sort_store.specs.Instance.{param_of, inst}
-use Rattle.sort_store.specs.Interned.{IsInterned}
+use Rattle.sort_store.specs.Interned.{IsInterned, AllInterned}
 
 -- the value of a parameter, if it has one
 abbrev pub value_at : List (Option NumberedSort) → ℕ → Option NumberedSort
@@ -58,3 +58,23 @@ pub record Fitted (old new : List (Option NumberedSort)) (schema : Sort) (r : Nu
   pub most : (values : List Sort) → Agrees old values → inst values schema ≡ tree r → Agrees new values
   -- in a store where the sort and the old values are interned the new values are, too
   pub interned : (store : List Sort) → ValuesInterned store old → IsInterned store r → ValuesInterned store new
+
+-- some sorts that agree with the binding make each schema the tree at its place
+pub record FitsEach (binding : List (Option NumberedSort)) (schemas ts : List Sort) : Type 0 where
+  pub values : List Sort
+  pub agree : Agrees binding values
+  pub makes : map (inst values) schemas ≡ ts
+
+-- the parameter stands in one of the schemas
+abbrev pub ParamInSome : ℕ → List Sort → Type 0
+ParamInSome i schemas = ParamInEach i (sorts schemas)
+
+-- the binding after each of the schemas was made the sort at its place
+pub record FittedEach (old new : List (Option NumberedSort)) (schemas : List Sort) (rs : List NumberedSort) : Type 0 where
+  pub count : length new ≡ length old
+  pub keeps : (i : ℕ) (v : NumberedSort) → value_at old i ≡ Some v → value_at new i ≡ Some v
+  pub bound : (i : ℕ) → ParamInSome i schemas → HasValue new i
+  pub makes : (values : List Sort) → Agrees new values → map (inst values) schemas ≡ map tree rs
+  pub only : (i : ℕ) → (value_at new i ≡ value_at old i) ⊎ ParamInSome i schemas
+  pub most : (values : List Sort) → Agrees old values → map (inst values) schemas ≡ map tree rs → Agrees new values
+  pub interned : (store : List Sort) → ValuesInterned store old → AllInterned store rs → ValuesInterned store new

@@ -8,3 +8,5 @@ pub mod SortKeys
 pub mod Instance
 pub mod Binding
 pub mod FitAnswers
+pub mod Ranks
+pub mod CoreRanks

@@ -33,8 +33,8 @@ pub enum Head {
     Param(u32),
 }
 
-/// The parameter that the head is.
-pub(crate) fn param(head: Head) -> Option<u32>
+/// The parameter that the head is, if it is one.
+pub fn param(head: Head) -> Option<u32>
     ensures { result ≡ param_of head }
 {
     match head {

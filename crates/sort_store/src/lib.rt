@@ -18,7 +18,7 @@ mod tests;
 pub use binding::Binding;
 pub use equality::{same, same_tree};
 pub use error::SortError;
-pub use head::{DeclNo, Head};
+pub use head::{DeclNo, Head, param};
 pub use sort_list::Sorts;
 pub use sort_ref::{MAX_NODES, SortRef};
 pub use store::SortStore;

@@ -1,5 +1,5 @@
-ghost use Rattle.std.specs.Prelude.{◌≡◌, ◌<◌, ◌↔◌, IsTrue, IfOk, length};
-ghost use Rattle.sort_store.specs.Binding.{Fits, Fitted};
+ghost use Rattle.std.specs.Prelude.{◌≡◌, ◌<◌, ◌↔◌, IsTrue, IfOk, length, map};
+ghost use Rattle.sort_store.specs.Binding.{Fits, FitsEach, Fitted, FittedEach};
 ghost use Rattle.sort_store.specs.FitAnswers.{FitAnswer, FitAnswerEach, FitAnswerParam};
 ghost use Rattle.sort_store.specs.Instance.{ParamsBelow, EachParamsBelow};
 ghost use Rattle.sort_store.specs.Tree.{tree, trees, nodes};
@@ -77,6 +77,29 @@ impl SortStore {
         ensures fitted { IfOk result (λ yes. IsTrue yes → Fitted binding.old binding.new (tree schema.now) sort.now) }
     {
         match fit(schema, sort, binding) {
+            Ok(yes) => Ok(yes),
+            Err(_) => Err(NoMemory),
+        }
+    }
+
+    /// Whether some sorts for the parameters that agree with the binding make each schema the sort
+    /// at its place, and there are as many sorts as schemas; the binding then gains what they have
+    /// to be. Each parameter of the schemas is below the binding's count. The only error is that
+    /// memory runs out; after it and after false nothing is said of the binding.
+    pub fn fits_each(
+        &self,
+        schemas: &[SortRef],
+        sorts: &[SortRef],
+        binding: &mut Binding,
+    ) -> Result<bool, NoMemory>
+        requires { EachParamsBelow (length binding.old) (trees (nodes schemas.now)) }
+        ensures fits { IfOk result (λ yes. IsTrue yes ↔ FitsEach binding.old (map tree schemas.now) (map tree sorts.now)) }
+        ensures fitted { IfOk result (λ yes. IsTrue yes → FittedEach binding.old binding.new (map tree schemas.now) sorts.now) }
+    {
+        if schemas.len() != sorts.len() {
+            return Ok(false);
+        }
+        match fit_each(schemas, sorts, binding) {
             Ok(yes) => Ok(yes),
             Err(_) => Err(NoMemory),
         }

@@ -287,3 +287,23 @@ fn largest_sorts(rt: HostRuntime) -> Result<(), Fail> {
     }
     Ok(())
 }
+
+#[test]
+fn lists_of_schemas(rt: HostRuntime) -> Result<(), Fail> {
+    let alloc = rt.alloc();
+    let mut store = SortStore::new(alloc);
+    let parameter = store.make(Head::Param(0), &[])?;
+    let bool_sort = store.make(Head::Bool, &[])?;
+    let int_sort = store.make(Head::Int, &[])?;
+    assert!(rt; params_below(&parameter, 1));
+    let schemas = [parameter.clone()?, parameter];
+    let mut binding = Binding::new(alloc, 1)?;
+    let alike = [bool_sort.clone()?, bool_sort.clone()?];
+    assert!(rt; store.fits_each(&schemas, &alike, &mut binding)?);
+    let mut binding = Binding::new(alloc, 1)?;
+    let mixed = [bool_sort.clone()?, int_sort];
+    assert!(rt; !store.fits_each(&schemas, &mixed, &mut binding)?);
+    let mut binding = Binding::new(alloc, 1)?;
+    assert!(rt; !store.fits_each(&schemas, &[bool_sort], &mut binding)?);
+    Ok(())
+}

@@ -1,0 +1,10 @@
+pub mod SortTests
+pub mod ArgumentTests
+pub mod KindRanks
+pub mod SymbolNames
+pub mod SymbolLaws
+pub mod TheoryRanks
+pub mod RankLaws
+pub mod SortsDecided
+pub mod RankDecisions
+pub mod TestSorts
