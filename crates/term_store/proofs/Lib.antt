@@ -1,0 +1,8 @@
+pub mod TextDepths
+pub mod MappedLists
+pub mod Values
+pub mod InternedTerms
+pub mod Outlines
+pub mod KeyLookup
+pub mod KeyedTerms
+pub mod KeptByNumber
