@@ -76,14 +76,14 @@ module _ {A B : Type 0} (J : Judging A) (K : A → Judging B) (before : List ℕ
   same_fault : (f g : Place) → ◌≡◌ {A = Outcome A} (ill_sorted g) (ill_sorted f) → ◌≡◌ {A = Outcome B} (ill_sorted g) (ill_sorted f)
   same_fault f g e = let p : g ≡ f = cc in ap ill_sorted p
 
-  then : (o : Outcome A) → J before o → ((p : Outcome A) → J before p → p ≡ o) → ((x : A) (s : List ℕ) → Decided (K x) s) → Decided (J >>= K) before
+  then : (o : Outcome A) → J before o → ((p : Outcome A) → J before p → p ≡ o) → ((x : A) (s : List ℕ) → J before (well_sorted x s) → Decided (K x) s) → Decided (J >>= K) before
   then (ill_sorted f) h u k = record { outcome = ill_sorted f; holds = inl h; only = only }
     where
       only : (o : Outcome B) → (J >>= K) before o → o ≡ ill_sorted f
       only (well_sorted y t) (x, s, j, l) = absurd (no_value x s f (u (well_sorted x s) j))
       only (ill_sorted g) (inl j) = same_fault f g (u (ill_sorted g) j)
       only (ill_sorted g) (inr (x, s, j, l)) = absurd (no_value x s f (u (well_sorted x s) j))
-  then (well_sorted x s) h u k = record { outcome = (k x s).outcome; holds = holds (k x s).outcome (k x s).holds; only = only }
+  then (well_sorted x s) h u k = record { outcome = (k x s h).outcome; holds = holds (k x s h).outcome (k x s h).holds; only = only }
     where
       holds : (o : Outcome B) → K x s o → (J >>= K) before o
       holds (well_sorted y t) l = (x, s, h, l)
@@ -93,13 +93,17 @@ module _ {A B : Type 0} (J : Judging A) (K : A → Judging B) (before : List ℕ
       moved y t o j l = let e = given_same x y s t (u (well_sorted y t) j) in
           subst (λ (z : A). K z s o) e.0 (subst (λ (r : List ℕ). K y r o) e.1 l)
 
-      only : (o : Outcome B) → (J >>= K) before o → o ≡ (k x s).outcome
-      only (well_sorted y t) (z, r, j, l) = (k x s).only (well_sorted y t) (moved z r (well_sorted y t) j l)
+      only : (o : Outcome B) → (J >>= K) before o → o ≡ (k x s h).outcome
+      only (well_sorted y t) (z, r, j, l) = (k x s h).only (well_sorted y t) (moved z r (well_sorted y t) j l)
       only (ill_sorted g) (inl j) = absurd (no_fault x s g (u (ill_sorted g) j))
-      only (ill_sorted g) (inr (z, r, j, l)) = (k x s).only (ill_sorted g) (moved z r (ill_sorted g) j l)
+      only (ill_sorted g) (inr (z, r, j, l)) = (k x s h).only (ill_sorted g) (moved z r (ill_sorted g) j l)
 
 pub lawful-then : {A B : Type 0} (J : Judging A) (K : A → Judging B) → Lawful J → ((x : A) → Lawful (K x)) → Lawful (J >>= K)
-lawful-then J K j k before = then J K before (j before).outcome (j before).holds (j before).only k
+lawful-then J K j k before = then J K before (j before).outcome (j before).holds (j before).only (λ x s _. k x s)
+
+-- the same where the items after a part are lawful for the values that the part can have
+pub lawful-then_given : {A B : Type 0} (J : Judging A) (K : A → Judging B) → Lawful J → ((before : List ℕ) (x : A) (s : List ℕ) → J before (well_sorted x s) → Decided (K x) s) → Lawful (J >>= K)
+lawful-then_given J K j k before = then J K before (j before).outcome (j before).holds (j before).only (k before)
 
 -- What follows of a lawful judgement: it has a value or a fault, never both, one value and one fault.
 module _ {A : Type 0} (J : Judging A) (law : Lawful J) (before : List ℕ) where

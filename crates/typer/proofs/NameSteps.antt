@@ -42,7 +42,7 @@ pub fun_kept : (world : World) (name : ℕ) (f : FunEntry) → IsReady world →
 fun_kept world name f ready e = lookup_all (IsReadyFun world.names world.sorts) name (live world.scopes.funs) f ready.funs e
 
 mutual
-  params_below : (texts : List (List ℕ)) (params : ℕ) (t : Sort) → IsReadyTree texts params t → ParamsBelow params t
+  pub params_below : (texts : List (List ℕ)) (params : ℕ) (t : Sort) → IsReadyTree texts params t → ParamsBelow params t
   params_below texts params (sort h ts) r = (head_below h r.0, each_below texts params ts r.1)
     where
       head_below : (h : Head) → IsReadyHead texts params h → IsBelow params (param_of h)

@@ -22,7 +22,7 @@ module _ (texts : List (List ℕ)) (old new : List Sort) (grows : Grows old new)
   fun_grown : (f : FunEntry) → IsReadyFunEntry texts old f → IsReadyFunEntry texts new f
   fun_grown f h = record { args = λ i r l. schema_grown f.params _ (h.args i r l); result = schema_grown f.params f.result h.result; params = h.params }
 
-grown : (world : World) (store : List Sort) → Grows world.sorts store → HasNoRepeats store → IsReady world → IsReady (record world { sorts = store })
+pub grown : (world : World) (store : List Sort) → Grows world.sorts store → HasNoRepeats store → IsReady world → IsReady (record world { sorts = store })
 grown world store g distinct ready = record {
   distinct = distinct;
   sorts = λ k d l. (let h = ready.sorts k d l in record { name = h.name; no_theory_sort = h.no_theory_sort; entry = entry_grown world.names world.sorts store g _ h.entry });

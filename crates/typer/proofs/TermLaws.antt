@@ -1,101 +1,144 @@
 -- Each term has exactly one outcome, and declares no name.
-use Rattle.std.proofs.Common.{◌≡◌, ℕ, List, [], ◌∷◌, length, ◌⊎◌, inl, inr, refl}
-use Rattle.sig_table.specs.declared.theories.Theories.{Theories}
+use Rattle.std.proofs.Common.{◌≡◌, ℕ, ◌≤◌, Bool, true, false, not, List, [], ◌∷◌, codes, map, Option, Some, None, ◌⊎◌, inl, inr, refl}
+use Rattle.std.specs.Str.{bytes_eq}
 use Rattle.lex_core.specs.declared.place.Place.{Place}
-use Rattle.judgement.specs.Judging.{Lawful, DeclaresNone}
-use Rattle.judgement.proofs.JudgementLaws.{lawful-done, lawful-find, lawful-refuse, lawful-then, option_decided, value_once, never_both, fault_once}
-use Rattle.judgement.proofs.NamesKept.{none-done, none-find, none-refuse, none-then}
-use Rattle.term_grammar.specs.Syntax.{symbol, indexed, Qualified, unqualified, qualified, qualified_at, Term, constant, qualified_term, application, let_in, for_all, there_exists, match_with, annotated, Terms, no_terms, with_term}
-use Rattle.sort_store.specs.Tree.{Sort}
-use Rattle.typer.specs.declared.function.CoreFunction.{CoreFunction}
-use Rattle.typer.specs.declared.function.CoreFunction.TheVariants.{TruthValue, Negation, Conjunction}
-use Rattle.typer.specs.Declarations.{Declarations}
-use Rattle.typer.specs.FunctionSymbols.{Function, core, declared, function_of, bool_sort, AllBool, HasCoreRank, HasRank}
-use Rattle.typer.specs.TermRules.{judge_function, judge_head, judge_term, judge_terms, TermHasSort, TermFault}
-use Rattle.typer.proofs.LiveDeclarations.{Each, each_of_all, all_of_each}
-use Rattle.typer.proofs.SortLaws.{at_most, same_number, decided_of}
-use Rattle.typer.proofs.SortsDecided.{sort_decided, sorts_decided}
+use Rattle.lex_core.specs.declared.token.Tok.{Tok}
+use Rattle.sig_table.specs.declared.code.Code.TheVariants.{NoRank, AmbiguousConstructor, WrongQualifiedSort, SortTooLarge}
+use Rattle.judgement.specs.Judging.{Judging, Lawful, DeclaresNone, check, find, done, ◌>>=◌}
+use Rattle.judgement.proofs.JudgementLaws.{lawful-done, lawful-check, lawful-find, lawful-refuse, lawful-then, lawful-then_given, option_decided, test_decided, value_once, never_both, fault_once}
+use Rattle.judgement.proofs.NamesKept.{none-done, none-check, none-find, none-refuse, none-then}
+use Rattle.term_grammar.specs.Syntax.{Identifier, symbol, indexed, Qualified, unqualified, qualified, qualified_at, Term, constant, qualified_term, application, let_in, for_all, there_exists, match_with, annotated, Terms, no_terms, with_term}
+use Rattle.sort_store.specs.Tree.{Sort, node_count}
+use Rattle.term_store.specs.Term.{PlainTerm, plain_sort}
+use Rattle.typer.specs.FunctionSymbols.{Signature, Function, theory, declared, function_of, indexed_function, text_of, HasRank, is_ambiguous}
+use Rattle.typer.specs.RankRules.{judge_rank}
+use Rattle.typer.specs.SortRules.{only_numeral}
+use Rattle.typer.specs.TermRules.{literal_sort, bound, judge_function, judge_head, judge_indexed_head, judge_symbol, judge_application, judge_asked, identifier_of, judge_literal, judge_term, judge_terms, Elaborates, TermFault}
+use Rattle.typer.proofs.RankDecisions.{theory_rank_decided, theory_result_decided, theory_result_once, instance_decided, instance_result_decided, instance_result_once}
+use Rattle.typer.proofs.SortLaws.{at_most, decided_of, lawful-sort, none-sort}
 
--- a function symbol has one rank with some argument sorts, or none
-each_bool_decided : (ts : List Sort) → Each (λ t. t ≡ bool_sort) ts ⊎ (Each (λ t. t ≡ bool_sort) ts → ⊥)
-each_bool_decided [] = inl tt
-each_bool_decided (t ∷ ts) = elim (sort_decided t bool_sort) [
-  | inl e ↦ elim (each_bool_decided ts) [ inl h ↦ inl (e, h) | inr n ↦ inr (λ h. n h.1) ]
-  | inr n ↦ inr (λ h. n h.0)
-]
+-- the rule on ranks, where it is decided which result sorts there are
+module _ (rank : Sort → Type 0) (some : ((s : Sort) × rank s) ⊎ (((s : Sort) × rank s) → ⊥)) (each : (s : Sort) → rank s ⊎ (rank s → ⊥)) (at : ℕ) where
+  one_or_none : ((s u : Sort) → rank s → rank u → s ≡ u) → ((s : Sort) × rank s × ((u : Sort) → rank u → u ≡ s)) ⊎ ((s : Sort) → rank s → ⊥)
+  one_or_none once = elim some [ inl h ↦ inl (h.0, h.1, λ u r. once u h.0 r h.1) | inr n ↦ inr (λ s r. n (s, r)) ]
 
-all_bool_decided : (ts : List Sort) → AllBool ts ⊎ (AllBool ts → ⊥)
-all_bool_decided ts = elim (each_bool_decided ts) [ inl h ↦ inl (all_of_each (λ t. t ≡ bool_sort) ts h) | inr n ↦ inr (λ h. n (each_of_all (λ t. t ≡ bool_sort) ts h)) ]
+  is_false : (b : Bool) → (b ≡ false) ⊎ (b ≡ false → ⊥)
+  is_false true = inr (λ e. cc)
+  is_false false = inl refl
 
-core_rank_decided : (f : CoreFunction) (args : List Sort) → HasCoreRank f args ⊎ (HasCoreRank f args → ⊥)
-core_rank_decided TruthValue args = sorts_decided args []
-core_rank_decided Negation args = sorts_decided args (bool_sort ∷ [])
-core_rank_decided Conjunction args = elim (at_most 2 (length args)) [
-  | inl l ↦ elim (all_bool_decided args) [ inl h ↦ inl (l, h) | inr n ↦ inr (λ h. n h.1) ]
-  | inr n ↦ inr (λ h. n h.0)
-]
+  abbrev result_checked : Sort → Judging Sort
+  result_checked r = check (node_count r ≤ 1000) SortTooLarge at >>= (λ _. done r)
 
-rank_decided : (f : Function) (args : List Sort) → ((t : Sort) × HasRank f args t × ((u : Sort) → HasRank f args u → u ≡ t)) ⊎ ((t : Sort) → HasRank f args t → ⊥)
-rank_decided (core f) args = elim (core_rank_decided f args) [ inl h ↦ inl (bool_sort, (h, refl), λ u k. k.1) | inr n ↦ inr (λ t k. n k.0) ]
-rank_decided (declared f) args = elim (same_number f.params 0) [
-  | inl e ↦ elim (sorts_decided args f.args) [ inl s ↦ inl (f.result, (e, s, refl), λ u k. k.2) | inr n ↦ inr (λ t k. n k.1) ]
-  | inr n ↦ inr (λ t k. n k.0)
-]
+  abbrev given_result : Judging Sort
+  given_result = find rank NoRank at >>= result_checked
 
-module _ (texts : List (List ℕ)) (declarations : Declarations) (theories : Theories) where
-  lawful-function : (name at : ℕ) (args : List Sort) → Lawful (judge_function declarations at args name)
-  lawful-function name at args =
-      lawful-then _ _ (lawful-find _ _ _ (option_decided (function_of declarations name))) (λ f. lawful-find _ _ _ (rank_decided f args))
+  lawful-given : ((s u : Sort) → rank s → rank u → s ≡ u) → Lawful given_result
+  lawful-given once = lawful-then (find rank NoRank at) result_checked (lawful-find rank NoRank at (one_or_none once))
+      (λ r. lawful-then (check (node_count r ≤ 1000) SortTooLarge at) (λ _. done r) (lawful-check _ _ _ (at_most (node_count r) 1000)) (λ _. lawful-done r))
 
-  lawful-head : (q : Qualified) (at : ℕ) (args : List Sort) → Lawful (judge_head declarations at args q)
-  lawful-head (unqualified (symbol t)) at args = lawful-function t.name at args
-  lawful-head (unqualified (indexed _ t is)) at args = lawful-refuse _ _
-  lawful-head (qualified _ i s) at args = lawful-refuse _ _
+  lawful-rank : (ambiguous : Bool) → (ambiguous ≡ false → (s u : Sort) → rank s → rank u → s ≡ u) → (asked : Option Sort) → Lawful (judge_rank rank ambiguous at asked)
+  lawful-rank ambiguous once None =
+      lawful-then (check ((s : Sort) × rank s) NoRank at) (λ _. check (ambiguous ≡ false) AmbiguousConstructor at >>= (λ _. given_result)) (lawful-check _ _ _ some)
+      (λ _. lawful-then_given (check (ambiguous ≡ false) AmbiguousConstructor at) (λ _. given_result) (lawful-check _ _ _ (is_false ambiguous)) (λ before x s h. lawful-given (once h.0) s))
+  lawful-rank ambiguous once (Some asked) =
+      lawful-then (check ((s : Sort) × rank s) NoRank at) (λ _. check (rank asked) WrongQualifiedSort at >>= (λ _. done asked)) (lawful-check _ _ _ some)
+      (λ _. lawful-then (check (rank asked) WrongQualifiedSort at) (λ _. done asked) (lawful-check _ _ _ (each asked)) (λ _. lawful-done asked))
+
+none-rank : (rank : Sort → Type 0) (ambiguous : Bool) (at : ℕ) (asked : Option Sort) → DeclaresNone (judge_rank rank ambiguous at asked)
+none-rank rank ambiguous at None = none-then _ _ (none-check _ _ _) (λ _. none-then _ _ (none-check _ _ _) (λ _. none-then _ _ (none-find _ _ _) (λ r. none-then _ _ (none-check _ _ _) (λ _. none-done _))))
+none-rank rank ambiguous at (Some asked) = none-then _ _ (none-check _ _ _) (λ _. none-then _ _ (none-check _ _ _) (λ _. none-done _))
+
+-- no argument and no `as`
+bare_decided : (args : List PlainTerm) (asked : Option Sort) → ((args ≡ []) × (asked ≡ None)) ⊎ ((args ≡ []) × (asked ≡ None) → ⊥)
+bare_decided [] None = inl (refl, refl)
+bare_decided [] (Some s) = inr (λ h. (let e = h.1 in cc))
+bare_decided (t ∷ ts) asked = inr (λ h. (let e = h.0 in cc))
+
+module _ (signature : Signature) (vars : List (ℕ × Sort)) where
+  lawful-function : (f : Function) (at : ℕ) (args : List Sort) (asked : Option Sort) (name : ℕ) (indices : List ℕ) → Lawful (judge_function signature f at args asked name indices)
+  lawful-function (theory text) at args asked name indices =
+      lawful-then _ _ (lawful-rank (HasRank signature.theories (theory text) args) (theory_rank_decided signature.theories text args) (theory_result_decided signature.theories text args) at false (λ _. theory_result_once signature.theories text args) asked) (λ r. lawful-done _)
+  lawful-function (declared f) at args asked name indices =
+      lawful-then _ _ (lawful-rank (HasRank signature.theories (declared f) args) (instance_decided f args) (instance_result_decided f args) at (is_ambiguous (declared f)) (λ e s u. instance_result_once f args s u e) asked) (λ r. lawful-done _)
+
+  lawful-head : (at : ℕ) (args : List Sort) (asked : Option Sort) (name : ℕ) → Lawful (judge_head signature at args asked name)
+  lawful-head at args asked name = lawful-then _ _ (lawful-find _ _ _ (option_decided (function_of signature name))) (λ f. lawful-function f at args asked name [])
+
+  lawful-indexed_head : (at : ℕ) (args : List Sort) (asked : Option Sort) (name : ℕ) (is : List Tok) → Lawful (judge_indexed_head signature at args asked name is)
+  lawful-indexed_head at args asked name is =
+      lawful-then _ _ (lawful-find _ _ _ (option_decided (indexed_function signature name))) (λ f. lawful-then _ _ (lawful-find _ _ _ (option_decided (only_numeral is)))
+      (λ i. lawful-then _ _ (lawful-check _ _ _ (test_decided (not (bytes_eq (text_of signature i.name) (codes "0"))))) (λ _. lawful-function f at args asked name (i.name ∷ []))))
+
+  lawful-symbol : (o : Option Sort) (at : ℕ) (args : List PlainTerm) (asked : Option Sort) (name : ℕ) → Lawful (judge_symbol signature o at args asked name)
+  lawful-symbol (Some s) at args asked name = lawful-then _ _ (lawful-check _ _ _ (bare_decided args asked)) (λ _. lawful-done _)
+  lawful-symbol None at args asked name = lawful-then _ _ (lawful-head at (map plain_sort args) asked name) (λ h. lawful-done _)
+
+  lawful-application : (i : Identifier) (at : ℕ) (args : List PlainTerm) (asked : Option Sort) → Lawful (judge_application signature vars at args asked i)
+  lawful-application (symbol t) at args asked = lawful-symbol (bound vars t.name) at args asked t.name
+  lawful-application (indexed _ t is) at args asked = lawful-then _ _ (lawful-indexed_head at (map plain_sort args) asked t.name is) (λ h. lawful-done _)
+
+  lawful-asked : (q : Qualified) → Lawful (judge_asked signature q)
+  lawful-asked (unqualified i) = lawful-done _
+  lawful-asked (qualified _ i s) = lawful-then _ _ (lawful-sort signature.texts signature.declarations signature.theories [] s) (λ t. lawful-done _)
+
+  lawful-literal : (t : Tok) → Lawful (judge_literal signature t)
+  lawful-literal t = lawful-then _ _ (lawful-find _ _ _ (option_decided (literal_sort signature.theories t))) (λ s. lawful-done _)
 
   mutual
-    pub lawful-term : (t : Term) → Lawful (judge_term texts declarations theories t)
-    lawful-term (constant t) = lawful-refuse _ _
-    lawful-term (qualified_term q) = lawful-head q (qualified_at q) []
-    lawful-term (application at q ts) = lawful-then _ _ (lawful-terms ts) (λ args. lawful-head q at args)
+    pub lawful-term : (t : Term) → Lawful (judge_term signature vars t)
+    lawful-term (constant t) = lawful-literal t
+    lawful-term (qualified_term q) = lawful-then _ _ (lawful-asked q) (λ asked. lawful-application (identifier_of q) (qualified_at q) [] asked)
+    lawful-term (application at q ts) = lawful-then _ _ (lawful-asked q) (λ asked. lawful-then _ _ (lawful-terms ts) (λ args. lawful-application (identifier_of q) at args asked))
     lawful-term (let_in at bs u) = lawful-refuse _ _
     lawful-term (for_all at vs u) = lawful-refuse _ _
     lawful-term (there_exists at vs u) = lawful-refuse _ _
     lawful-term (match_with at u cs) = lawful-refuse _ _
     lawful-term (annotated at u ns) = lawful-refuse _ _
 
-    pub lawful-terms : (ts : Terms) → Lawful (judge_terms texts declarations theories ts)
+    pub lawful-terms : (ts : Terms) → Lawful (judge_terms signature vars ts)
     lawful-terms no_terms = lawful-done _
-    lawful-terms (with_term t ts) = lawful-then _ _ (lawful-term t) (λ s. lawful-then _ _ (lawful-terms ts) (λ ss. lawful-done _))
+    lawful-terms (with_term t ts) = lawful-then _ _ (lawful-term t) (λ u. lawful-then _ _ (lawful-terms ts) (λ us. lawful-done _))
 
-  none-head : (q : Qualified) (at : ℕ) (args : List Sort) → DeclaresNone (judge_head declarations at args q)
-  none-head (unqualified (symbol t)) at args = none-then _ _ (none-find _ _ _) (λ f. none-find _ _ _)
-  none-head (unqualified (indexed _ t is)) at args = none-refuse _ _
-  none-head (qualified _ i s) at args = none-refuse _ _
+  none-function : (f : Function) (at : ℕ) (args : List Sort) (asked : Option Sort) (name : ℕ) (indices : List ℕ) → DeclaresNone (judge_function signature f at args asked name indices)
+  none-function f at args asked name indices = none-then _ _ (none-rank _ _ _ asked) (λ r. none-done _)
+
+  none-symbol : (o : Option Sort) (at : ℕ) (args : List PlainTerm) (asked : Option Sort) (name : ℕ) → DeclaresNone (judge_symbol signature o at args asked name)
+  none-symbol (Some s) at args asked name = none-then _ _ (none-check _ _ _) (λ _. none-done _)
+  none-symbol None at args asked name = none-then _ _ (none-then _ _ (none-find _ _ _) (λ f. none-function f at (map plain_sort args) asked name [])) (λ h. none-done _)
+
+  none-application : (i : Identifier) (at : ℕ) (args : List PlainTerm) (asked : Option Sort) → DeclaresNone (judge_application signature vars at args asked i)
+  none-application (symbol t) at args asked = none-symbol (bound vars t.name) at args asked t.name
+  none-application (indexed _ t is) at args asked =
+      none-then _ _ (none-then _ _ (none-find _ _ _) (λ f. none-then _ _ (none-find _ _ _) (λ i. none-then _ _ (none-check _ _ _) (λ _. none-function f at (map plain_sort args) asked t.name (i.name ∷ []))))) (λ h. none-done _)
+
+  none-asked : (q : Qualified) → DeclaresNone (judge_asked signature q)
+  none-asked (unqualified i) = none-done _
+  none-asked (qualified _ i s) = none-then _ _ (none-sort signature.texts signature.declarations signature.theories [] s) (λ t. none-done _)
 
   mutual
-    pub none-term : (t : Term) → DeclaresNone (judge_term texts declarations theories t)
-    none-term (constant t) = none-refuse _ _
-    none-term (qualified_term q) = none-head q (qualified_at q) []
-    none-term (application at q ts) = none-then _ _ (none-terms ts) (λ args. none-head q at args)
+    pub none-term : (t : Term) → DeclaresNone (judge_term signature vars t)
+    none-term (constant t) = none-then _ _ (none-find _ _ _) (λ s. none-done _)
+    none-term (qualified_term q) = none-then _ _ (none-asked q) (λ asked. none-application (identifier_of q) (qualified_at q) [] asked)
+    none-term (application at q ts) = none-then _ _ (none-asked q) (λ asked. none-then _ _ (none-terms ts) (λ args. none-application (identifier_of q) at args asked))
     none-term (let_in at bs u) = none-refuse _ _
     none-term (for_all at vs u) = none-refuse _ _
     none-term (there_exists at vs u) = none-refuse _ _
     none-term (match_with at u cs) = none-refuse _ _
     none-term (annotated at u ns) = none-refuse _ _
 
-    pub none-terms : (ts : Terms) → DeclaresNone (judge_terms texts declarations theories ts)
+    pub none-terms : (ts : Terms) → DeclaresNone (judge_terms signature vars ts)
     none-terms no_terms = none-done _
-    none-terms (with_term t ts) = none-then _ _ (none-term t) (λ s. none-then _ _ (none-terms ts) (λ ss. none-done _))
+    none-terms (with_term t ts) = none-then _ _ (none-term t) (λ u. none-then _ _ (none-terms ts) (λ us. none-done _))
 
   -- the laws of the two readings
-  pub term_once : (t : Term) (s u : Sort) → TermHasSort texts declarations theories t s → TermHasSort texts declarations theories t u → s ≡ u
-  term_once t s u h k = (value_once _ (lawful-term t) [] s u [] [] (h []) (k [])).0
+  pub elaborated_once : (t : Term) (u v : PlainTerm) → Elaborates signature vars t u → Elaborates signature vars t v → u ≡ v
+  elaborated_once t u v h k = (value_once _ (lawful-term t) [] u v [] [] (h []) (k [])).0
 
-  pub term_or_fault : (t : Term) (s : Sort) (place : Place) → TermHasSort texts declarations theories t s → TermFault texts declarations theories t place → ⊥
-  term_or_fault t s place h k = never_both _ (lawful-term t) [] s [] place (h []) (k [])
+  pub term_or_fault : (t : Term) (u : PlainTerm) (place : Place) → Elaborates signature vars t u → TermFault signature vars t place → ⊥
+  term_or_fault t u place h k = never_both _ (lawful-term t) [] u [] place (h []) (k [])
 
-  pub fault_of_term_once : (t : Term) (p q : Place) → TermFault texts declarations theories t p → TermFault texts declarations theories t q → p ≡ q
+  pub fault_of_term_once : (t : Term) (p q : Place) → TermFault signature vars t p → TermFault signature vars t q → p ≡ q
   fault_of_term_once t p q h k = fault_once _ (lawful-term t) [] p q (h []) (k [])
 
-  pub term_decided : (t : Term) → ((s : Sort) × TermHasSort texts declarations theories t s) ⊎ ((place : Place) × TermFault texts declarations theories t place)
+  pub term_decided : (t : Term) → ((u : PlainTerm) × Elaborates signature vars t u) ⊎ ((place : Place) × TermFault signature vars t place)
   term_decided t = decided_of _ (lawful-term t) (none-term t)

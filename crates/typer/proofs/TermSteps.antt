@@ -1,23 +1,23 @@
 -- What the outcomes of the parts of a term say of the whole.
-use Rattle.std.proofs.Common.{◌≡◌, ℕ, suc, ◌+◌, List, [], map, Option, Some, None, Result, Ok, Err, refl, ap, sym, ◌∙◌, inr, subst}
-use Rattle.judgement.specs.Judging.{Judging, well_sorted, ill_sorted}
-use Rattle.term_grammar.specs.Syntax.{Qualified, Term, constant, qualified_term, application, let_in, for_all, there_exists, match_with, annotated, term_at, Terms, no_terms, with_term}
+use Rattle.std.proofs.Common.{◌≡◌, ℕ, suc, ◌+◌, List, [], Option, Some, None, Result, Ok, Err, refl, ap, sym, ◌∙◌, inl, inr, subst}
+use Rattle.judgement.specs.Judging.{Judging, well_sorted, ill_sorted, ◌>>=◌}
+use Rattle.lex_core.specs.declared.token.Tok.{Tok}
+use Rattle.term_grammar.specs.Syntax.{Qualified, Term, constant, qualified_term, qualified_at, application, let_in, for_all, there_exists, match_with, annotated, term_at, Terms, no_terms, with_term}
 use Rattle.term_grammar.specs.declared.term.RawTermKind.TheVariants as kind
 use Rattle.term_grammar.specs.TermViews.{term_kind, SplitsTerms}
-use Rattle.sort_store.specs.Tree.{Sort, NumberedSort, tree}
+use Rattle.sort_store.specs.Tree.{Sort}
+use Rattle.term_store.specs.Term.{PlainTerm}
 use Rattle.typer.specs.declared.error.TyError.{TyError}
 use Rattle.typer.specs.declared.error.TyError.TheVariants as error
-use Rattle.typer.specs.declared.world.World.{World}
-use Rattle.typer.specs.Answers.{Answers, tree_answer}
-use Rattle.typer.specs.Declarations.{declarations_of}
-use Rattle.typer.specs.TermRules.{judge_head, judge_term, judge_terms}
-use Rattle.typer.proofs.SortSteps.{OthersStay}
+use Rattle.typer.specs.Answers.{Answers}
+use Rattle.typer.specs.FunctionSymbols.{Signature}
+use Rattle.typer.specs.TermRules.{judge_constant, judge_literal, judge_term, judge_terms}
 use Rattle.typer.proofs.ListSteps.{Joins}
 
 -- how many parts a term has, itself among them, as far as they are judged
 abbrev mutual
   pub size : Term → ℕ
-  size (application at q ts) = suc (sizes ts)
+  size (application at q ts) = suc (suc (sizes ts))
   size _ = 1
 
   pub sizes : Terms → ℕ
@@ -29,53 +29,72 @@ abbrev pub left : Option (Term × Terms) → Terms
 left None = no_terms
 left (Some p) = with_term p.0 p.1
 
+-- a part with a value, and what follows it
+pub first_is : {A B : Type 0} (J : Judging A) (K : A → Judging B) (x : A) (r : Result B TyError) → Answers (Ok x) J → Answers r (K x) → Answers r (J >>= K)
+first_is J K x (Ok y) h k = λ before. (x, before, h before, k before)
+first_is J K x (Err (error.Fault place)) h k = λ before. inr (x, before, h before, k before)
+first_is J K x (Err error.NoMemory) h k = tt
+
+-- a part with a fault
+pub first_fails : {A B : Type 0} (J : Judging A) (K : A → Judging B) (e : TyError) → Answers {A = A} (Err e) J → Answers {A = B} (Err e) (J >>= K)
+first_fails J K (error.Fault place) h = λ before. inl (h before)
+first_fails J K error.NoMemory h = tt
+
 pub left_is : (ts : Terms) (next : Option (Term × Terms)) → SplitsTerms ts next → left next ≡ ts
 left_is ts None e = sym e
 left_is ts (Some p) e = sym e
 
--- the rules under a world
-abbrev pub term_in : World → Term → Judging Sort
-term_in world t = judge_term world.names (declarations_of world.scopes) world.theories t
+-- the rules under a signature and variables
+module _ (signature : Signature) (vars : List (ℕ × Sort)) where
+  pub joins_terms : Joins with_term (judge_term signature vars) (judge_terms signature vars)
+  joins_terms t rest before (well_sorted us after) h = h
+  joins_terms t rest before (ill_sorted place) h = h
 
-abbrev pub terms_in : World → Terms → Judging (List Sort)
-terms_in world ts = judge_terms world.names (declarations_of world.scopes) world.theories ts
+  pub none_left : (ts : Terms) → ts ≡ no_terms → (before : List ℕ) → judge_terms signature vars ts before (well_sorted [] before)
+  none_left ts e before = subst (λ z. judge_terms signature vars z before (well_sorted [] before)) (sym e) (refl, refl)
 
-abbrev pub head_in : World → ℕ → List Sort → Qualified → Judging Sort
-head_in world at args q = judge_head (declarations_of world.scopes) at args q
+  -- the production that the view shows
+  constant_shown : (raw : Term) (t : Tok) → kind.Constant t ≡ term_kind raw → raw ≡ constant t
+  constant_shown (constant u) t e = let s : u ≡ t = cc in ap constant s
+  constant_shown (qualified_term q) t e = cc
+  constant_shown (application at q ts) t e = cc
+  constant_shown (let_in b bs u) t e = cc
+  constant_shown (for_all b vs u) t e = cc
+  constant_shown (there_exists b vs u) t e = cc
+  constant_shown (match_with b u cs) t e = cc
+  constant_shown (annotated b u ns) t e = cc
 
-pub joins_terms : (world : World) → Joins with_term (term_in world) (terms_in world)
-joins_terms world t rest before (well_sorted ss after) h = h
-joins_terms world t rest before (ill_sorted place) h = h
+  qualified_shown : (raw : Term) (q : Qualified) → kind.Qualified q ≡ term_kind raw → raw ≡ qualified_term q
+  qualified_shown (constant u) q e = cc
+  qualified_shown (qualified_term p) q e = let s : p ≡ q = cc in ap qualified_term s
+  qualified_shown (application at p ts) q e = cc
+  qualified_shown (let_in b bs u) q e = cc
+  qualified_shown (for_all b vs u) q e = cc
+  qualified_shown (there_exists b vs u) q e = cc
+  qualified_shown (match_with b u cs) q e = cc
+  qualified_shown (annotated b u ns) q e = cc
 
-pub none_left : (world : World) (ts : Terms) → ts ≡ no_terms → (before : List ℕ) → terms_in world ts before (well_sorted [] before)
-none_left world ts e before = subst (λ z. terms_in world z before (well_sorted [] before)) (sym e) (refl, refl)
+  application_shown : (raw : Term) (q : Qualified) (ts : Terms) → kind.Application q ts ≡ term_kind raw → (at : ℕ) × (raw ≡ application at q ts)
+  application_shown (application at p us) q ts e = let s : p ≡ q = cc in let t : us ≡ ts = cc in (at, ap (λ z. application at z us) s ∙ ap (application at q) t)
+  application_shown (constant u) q ts e = cc
+  application_shown (qualified_term p) q ts e = cc
+  application_shown (let_in b bs u) q ts e = cc
+  application_shown (for_all b vs u) q ts e = cc
+  application_shown (there_exists b vs u) q ts e = cc
+  application_shown (match_with b u cs) q ts e = cc
+  application_shown (annotated b u ns) q ts e = cc
 
-pub moved_term : (old now : World) → OthersStay old now → (t : Term) (r : Result Sort TyError) → Answers r (term_in now t) → Answers r (term_in old t)
-moved_term old now others t r h = subst (λ w. Answers r (term_in w t)) others h
+  pub of_constant : (raw : Term) (t : Tok) (r : Result PlainTerm TyError) → kind.Constant t ≡ term_kind raw → Answers r (judge_literal signature t) → Answers r (judge_term signature vars raw)
+  of_constant raw t r e h = subst (λ z. Answers r (judge_term signature vars z)) (sym (constant_shown raw t e)) h
 
-application_shown : (raw : Term) (q : Qualified) (ts : Terms) → kind.Application q ts ≡ term_kind raw → (at : ℕ) × (raw ≡ application at q ts)
-application_shown (application at p us) q ts e = let s : p ≡ q = cc in let t : us ≡ ts = cc in (at, ap (λ z. application at z us) s ∙ ap (application at q) t)
-application_shown (constant u) q ts e = cc
-application_shown (qualified_term p) q ts e = cc
-application_shown (let_in b bs u) q ts e = cc
-application_shown (for_all b vs u) q ts e = cc
-application_shown (there_exists b vs u) q ts e = cc
-application_shown (match_with b u cs) q ts e = cc
-application_shown (annotated b u ns) q ts e = cc
+  pub of_qualified : (raw : Term) (q : Qualified) (r : Result PlainTerm TyError) → kind.Qualified q ≡ term_kind raw → Answers r (judge_constant signature vars q) → Answers r (judge_term signature vars raw)
+  of_qualified raw q r e h = subst (λ z. Answers r (judge_term signature vars z)) (sym (qualified_shown raw q e)) h
 
--- the answer in the world before the call
-pub of_application : (old mid : World) (raw : Term) (q : Qualified) (ts : Terms) (at : ℕ) (rs slice : List NumberedSort) (r : Result NumberedSort TyError)
-    → kind.Application q ts ≡ term_kind raw → at ≡ term_at raw → OthersStay old mid → Answers (Ok (map tree rs)) (terms_in old ts) → slice ≡ rs
-    → Answers (tree_answer r) (head_in mid at (map tree slice) q) → Answers (tree_answer r) (term_in old raw)
-of_application old mid raw q ts at rs slice r shown e others h same k =
-    let found = application_shown raw q ts shown in
-    let k' : Answers (tree_answer r) (head_in old found.0 (map tree rs) q) =
-    subst (λ w. Answers (tree_answer r) (head_in w found.0 (map tree rs) q)) others
-    (subst (λ z. Answers (tree_answer r) (head_in mid z (map tree rs) q)) (e ∙ ap term_at found.1)
-    (subst (λ z. Answers (tree_answer r) (head_in mid at (map tree z) q)) same k)) in
-    subst (λ z. Answers (tree_answer r) (term_in old z)) (sym found.1) (by (tree_answer r) k')
-  where
-    by : (s : Result Sort TyError) → Answers s (head_in old (application_shown raw q ts shown).0 (map tree rs) q) → Answers s (term_in old (application (application_shown raw q ts shown).0 q ts))
-    by (Ok t) k = λ before. (map tree rs, before, h before, k before)
-    by (Err (error.Fault place)) k = λ before. inr (map tree rs, before, h before, k before)
-    by (Err error.NoMemory) k = tt
+  pub qualified_byte : (raw : Term) (q : Qualified) → kind.Qualified q ≡ term_kind raw → term_at raw ≡ qualified_at q
+  qualified_byte raw q e = ap term_at (qualified_shown raw q e)
+
+  pub of_application : (raw : Term) (q : Qualified) (ts : Terms) (at : ℕ) (r : Result PlainTerm TyError) → kind.Application q ts ≡ term_kind raw → at ≡ term_at raw
+      → Answers r (judge_term signature vars (application at q ts)) → Answers r (judge_term signature vars raw)
+  of_application raw q ts at r e same h =
+      let found = application_shown raw q ts e in
+      subst (λ z. Answers r (judge_term signature vars z)) (sym found.1) (subst (λ z. Answers r (judge_term signature vars (application z q ts))) (same ∙ ap term_at found.1) h)

@@ -1,5 +1,5 @@
 -- What a call that judges sorts answers.
-use Rattle.std.specs.Prelude.{ℕ, List, map, Result, Ok, Err, ⊤}
+use Rattle.std.specs.Prelude.{ℕ, List, map, Option, option_map, Result, Ok, Err, ⊤}
 use Rattle.std.specs.Prelude.{Vec}
 use Rattle.std.specs.Global.{Global}
 use Rattle.judgement.specs.Judging.{Judging, well_sorted, ill_sorted}
@@ -9,6 +9,12 @@ use Rattle.sort_store.specs.declared.error.SortError.{SortError}
 use Rattle.sort_store.specs.declared.error.SortError.TheVariants as store
 use Rattle.typer.specs.declared.error.TyError.{TyError}
 use Rattle.typer.specs.declared.error.TyError.TheVariants as error
+use Rattle.term_store.specs.declared.parts.Applied.{Applied}
+use Rattle.term_store.specs.Term.{NumberedTerm, PlainTerm}
+use Rattle.term_store.specs.Term as terms
+use Rattle.typer.specs.declared.head.TypedHead.{TypedHead}
+use Rattle.typer.specs.declared.typed.TypedTerm.{TypedTerm}
+use Rattle.typer.specs.declared.typed.TypedTerms.{TypedTerms}
 
 -- Ok has the value that the thing is well sorted with, a fault has the place, and want of memory says nothing. The names
 -- that the command has declared play no part.
@@ -30,3 +36,24 @@ trees_answer (Err e) = Err e
 abbrev pub fault_of_store : SortError → ℕ → TyError
 fault_of_store store.TooLarge at = error.Fault (record { code = SortTooLarge; at = at })
 fault_of_store store.NoMemory at = error.NoMemory
+
+-- the trees of typed terms and of their parts
+abbrev pub term_answer : Result NumberedTerm TyError → Result PlainTerm TyError
+term_answer (Ok t) = Ok (terms.tree t)
+term_answer (Err e) = Err e
+
+abbrev pub typed_answer : Result TypedTerm TyError → Result PlainTerm TyError
+typed_answer (Ok typed) = Ok (terms.tree typed.term)
+typed_answer (Err e) = Err e
+
+abbrev pub typed_answers : Result TypedTerms TyError → Result (List PlainTerm) TyError
+typed_answers (Ok typed) = Ok (map terms.tree typed.terms.items)
+typed_answers (Err e) = Err e
+
+abbrev pub head_answer : Result TypedHead TyError → Result (Applied × Sort) TyError
+head_answer (Ok head) = Ok (head.applied, tree head.sort)
+head_answer (Err e) = Err e
+
+abbrev pub asked_answer : Result (Option NumberedSort) TyError → Result (Option Sort) TyError
+asked_answer (Ok asked) = Ok (option_map tree asked)
+asked_answer (Err e) = Err e

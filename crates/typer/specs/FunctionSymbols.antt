@@ -1,65 +1,88 @@
--- What the function symbol of a term stands for, and the ranks that it has (SMT-LIB 2.6, section 3.6, and the theory
--- declaration Core). The symbols of Core are told by the numbers that their names have in every table.
-use Rattle.std.specs.Prelude.{◌≡◌, ℕ, ◌≤◌, ◌==◌, Bool, ◌||◌, if◌then◌else◌, List, [], ◌∷◌, length, Option, Some, None, option_map}
-use Rattle.std.specs.List.{All}
+-- What the function symbol of a term stands for, and the ranks that it has (SMT-LIB 2.6, section 3.6).
+use Rattle.std.specs.Prelude.{ℕ, Bool, false, ◌||◌, if◌then◌else◌, List, [], ◌++◌, slice_index_or, Option, Some, None, option_map}
 use Rattle.std.specs.Option.{is_some}
 use Rattle.sig_table.specs.declared.theories.Theories.{Theories}
-use Rattle.term_grammar.specs.declared.words.TheConstants.{TRUE, FALSE, NOT}
-use Rattle.sort_store.specs.declared.head.Head.TheVariants as head
-use Rattle.sort_store.specs.Tree.{Sort, sort, no_sorts, NumberedSort}
-use Rattle.sort_store.specs.Interned.{AllInterned, HasNoRepeats}
+use Rattle.sig_table.specs.declared.theories.NameForm.{NameForm}
+use Rattle.sig_table.specs.declared.theories.NameForm.TheVariants as form
+use Rattle.sort_store.specs.Tree.{Sort}
+use Rattle.judgement.specs.Judging.{Judging}
+use Rattle.sort_store.specs.Ranks.{RankedSymbol, ranks_of}
+use Rattle.sort_store.specs.Ranks as ranks
 use Rattle.scope_stack.specs.Levels.{found}
-use Rattle.typer.specs.declared.function.TheConstants.{AND}
-use Rattle.typer.specs.declared.function.CoreFunction.{CoreFunction}
-use Rattle.typer.specs.declared.function.CoreFunction.TheVariants.{TruthValue, Negation, Conjunction}
-use Rattle.typer.specs.Declarations.{FunDeclaration, Declarations}
+use Rattle.theory_core.specs.IntsRanks.{ints_symbols}
+use Rattle.theory_core.specs.ArraysRanks.{arrays_symbols}
+use Rattle.theory_core.specs.TheorySymbols.{theory_symbols, form_of}
+use Rattle.typer.specs.declared.world.World.{World}
+use Rattle.typer.specs.Declarations.{FunDeclaration, Declarations, declarations_of}
+use Rattle.typer.specs.LiveRanks.{HasInstance}
+use Rattle.typer.specs.LiveRanks as live
+use Rattle.typer.specs.RankRules.{judge_rank}
 use Rattle.typer.specs.SortSymbols.{or_else, is_theory_sort}
 
--- a function symbol of Core, or a live one
+-- what the symbols of a term are looked up in: the texts of the names, the live declarations and the theories of the logic
+pub record Signature : Type 0 where
+  pub texts : List (List ℕ)
+  pub declarations : Declarations
+  pub theories : Theories
+
+-- a function symbol of Core or of a theory of the logic, by its text, or a live one
 pub data Function : Type 0 where
-  core : CoreFunction → Function
+  theory : List ℕ → Function
   declared : FunDeclaration → Function
 
--- the function symbol of Core that the name is: true, false, not or and
-abbrev pub core_function : ℕ → Option CoreFunction
-core_function name =
-    if name == TRUE || name == FALSE then Some TruthValue
-    else if name == NOT then Some Negation
-    else if name == AND then Some Conjunction
-    else None
+-- that of a world
+abbrev pub signature_of : World → Signature
+signature_of world = record { texts = world.names; declarations = declarations_of world.scopes; theories = world.theories }
 
--- a symbol of Core where the name is one, else a live function symbol
-abbrev pub function_of : Declarations → ℕ → Option Function
-function_of declarations name = or_else (option_map core (core_function name)) (option_map declared (found name declarations.funs))
+abbrev pub text_of : Signature → ℕ → List ℕ
+text_of signature name = slice_index_or signature.texts name []
 
-abbrev pub bool_sort : Sort
-bool_sort = sort head.Bool no_sorts
+-- a theory symbol whose names are written without indices, or with them
+abbrev pub if_plain : Option NameForm → List ℕ → Option Function
+if_plain (Some form.Plain) text = Some (theory text)
+if_plain (Some form.Indexed) text = None
+if_plain None text = None
 
-abbrev pub AllBool : List Sort → Type 0
-AllBool args = All (λ t. t ≡ bool_sort) args
+abbrev pub if_indexed : Option NameForm → List ℕ → Option Function
+if_indexed (Some form.Plain) text = None
+if_indexed (Some form.Indexed) text = Some (theory text)
+if_indexed None text = None
 
--- the ranks of the symbols of Core, by argument sorts; the result sort is Bool
-abbrev pub HasCoreRank : CoreFunction → List Sort → Type 0
-HasCoreRank TruthValue args = args ≡ []
-HasCoreRank Negation args = args ≡ bool_sort ∷ []
-HasCoreRank Conjunction args = (2 ≤ length args) × AllBool args
+-- what a symbol stands for that is written without indices: a theory symbol of the logic, else a live one
+abbrev pub function_of : Signature → ℕ → Option Function
+function_of signature name =
+    or_else (if_plain (form_of signature.theories (text_of signature name)) (text_of signature name)) (option_map declared (found name signature.declarations.funs))
+
+-- with indices: theory symbols alone
+abbrev pub indexed_function : Signature → ℕ → Option Function
+indexed_function signature name = if_indexed (form_of signature.theories (text_of signature name)) (text_of signature name)
+
+-- the symbols of a theory, where the logic has it
+abbrev pub if_present : Bool → List RankedSymbol → List RankedSymbol
+if_present present symbols = if present then symbols else []
+
+-- the symbols that Ints and ArraysEx give a logic with these theories
+abbrev pub symbols_past_core : Theories → List RankedSymbol
+symbols_past_core theories = if_present theories.ints ints_symbols ++ if_present theories.arrays arrays_symbols
 
 -- the function symbol has the rank with these argument sorts and this result sort
-abbrev pub HasRank : Function → List Sort → Sort → Type 0
-HasRank (core function) args result = HasCoreRank function args × (result ≡ bool_sort)
-HasRank (declared f) args result = (f.params ≡ 0) × (args ≡ f.args) × (result ≡ f.result)
+abbrev pub HasRank : Theories → Function → List Sort → Sort → Type 0
+HasRank theories (theory text) args result = ranks.HasRank (ranks_of text (theory_symbols theories)) args result
+HasRank theories (declared f) args result = HasInstance f args result
 
--- Core uses the name for a function, or it is live
-abbrev pub is_fun_in_use : Declarations → ℕ → Bool
-is_fun_in_use declarations name = is_some (core_function name) || is_some (found name declarations.funs)
+-- the arguments of a theory symbol always give its result sort
+abbrev pub is_ambiguous : Function → Bool
+is_ambiguous (theory text) = false
+is_ambiguous (declared f) = live.is_ambiguous f
+
+-- the rule on the rank of a theory symbol
+abbrev pub judge_theory : Theories → List ℕ → ℕ → List Sort → Option Sort → Judging Sort
+judge_theory theories text at args asked = judge_rank (HasRank theories (theory text) args) false at asked
+
+-- Core or a theory of the logic uses the name for a function, or it is live
+abbrev pub is_fun_in_use : Signature → ℕ → Bool
+is_fun_in_use signature name = is_some (form_of signature.theories (text_of signature name)) || is_some (found name signature.declarations.funs)
 
 -- Core or a theory uses the name for a sort, or it is live
-abbrev pub is_sort_in_use : List (List ℕ) → Declarations → Theories → ℕ → Bool
-is_sort_in_use texts declarations theories name = is_theory_sort texts theories name || is_some (found name declarations.sorts)
-
--- the sorts of both lists are interned in one store without repeats
-pub record AllInternedTogether (a b : List NumberedSort) : Type 0 where
-  pub store : List Sort
-  pub distinct : HasNoRepeats store
-  pub first : AllInterned store a
-  pub second : AllInterned store b
+abbrev pub is_sort_in_use : Signature → ℕ → Bool
+is_sort_in_use signature name = is_theory_sort signature.texts signature.theories name || is_some (found name signature.declarations.sorts)

@@ -4,5 +4,8 @@ pub mod SortSymbols
 pub mod SortRules
 pub mod Answers
 pub mod Ready
+pub mod RankRules
+pub mod LiveRanks
 pub mod FunctionSymbols
 pub mod TermRules
+pub mod Typed

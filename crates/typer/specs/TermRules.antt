@@ -1,55 +1,137 @@
 -- The rules on terms (SMT-LIB 2.6, section 3.6): one list of items for each production. A term is judged after its parts,
 -- and these from left to right.
-use Rattle.std.specs.Prelude.{◌≡◌, ℕ, List, [], ◌∷◌, Some}
-use Rattle.sig_table.specs.declared.code.Code.TheVariants.{WrongTermForm, LiteralWithoutSort, UnknownFunction, NoRank}
+use Rattle.std.specs.Prelude.{◌≡◌, ℕ, ◌==◌, ◌&&◌, not, IsTrue, if◌then◌else◌, List, [], ◌∷◌, codes, bytes_eq, map, Option, Some, None}
+use Rattle.sig_table.specs.declared.code.Code.TheVariants.{WrongTermForm, LiteralWithoutSort, UnknownFunction, WrongIndex, AppliedVariable}
 use Rattle.sig_table.specs.declared.theories.Theories.{Theories}
 use Rattle.lex_core.specs.declared.place.Place.{Place}
-use Rattle.judgement.specs.Judging.{Judging, well_sorted, ill_sorted, done, ◌>>=◌, find, refuse}
-use Rattle.term_grammar.specs.Syntax.{symbol, indexed, Qualified, unqualified, qualified, qualified_at, Term, constant, qualified_term, application, let_in, for_all, there_exists, match_with, annotated, Terms, no_terms, with_term}
+use Rattle.lex_core.specs.declared.token.Tok.{Tok}
+use Rattle.judgement.specs.Judging.{Judging, well_sorted, ill_sorted, done, ◌>>=◌, check, find, refuse}
+use Rattle.term_grammar.specs.Words.{is_numeral}
+use Rattle.term_grammar.specs.Syntax.{Identifier, symbol, indexed, Qualified, unqualified, qualified, qualified_at, constant, qualified_term, application, let_in, for_all, there_exists, match_with, annotated, Terms, no_terms, with_term}
+use Rattle.term_grammar.specs.Syntax as syntax
 use Rattle.sort_store.specs.Tree.{Sort}
-use Rattle.typer.specs.Declarations.{Declarations}
-use Rattle.typer.specs.FunctionSymbols.{Function, function_of, HasRank}
+use Rattle.theory_core.specs.IntsRanks.{int}
+use Rattle.term_store.specs.Term.{PlainTerm, term, lit, var, app, plain_sort, plain_terms}
+use Rattle.term_store.specs.declared.parts.Applied.{Applied}
+use Rattle.term_store.specs.declared.parts.Fun.{Fun}
+use Rattle.term_store.specs.declared.parts.Fun.TheVariants as fun
+use Rattle.typer.specs.RankRules.{judge_rank}
+use Rattle.typer.specs.SortRules.{only_numeral, judge_sort}
+use Rattle.typer.specs.SortSymbols.{or_else}
+use Rattle.typer.specs.FunctionSymbols.{Signature, Function, theory, declared, function_of, indexed_function, text_of, HasRank, is_ambiguous}
 
--- a function symbol with argument sorts, in a term that begins at a byte
-abbrev pub judge_rank : Function → ℕ → List Sort → Judging Sort
-judge_rank function at args = find (λ result. HasRank function args result) NoRank at
+-- the sort of a literal: a numeral is an Int where the logic has Ints
+abbrev pub literal_sort : Theories → Tok → Option Sort
+literal_sort theories t = if theories.ints && is_numeral t then Some int else None
 
-abbrev pub judge_function : Declarations → ℕ → List Sort → ℕ → Judging Sort
-judge_function declarations at args name = do
-  function ← find (λ function. function_of declarations name ≡ Some function) UnknownFunction at
-  judge_rank function at args
+-- what the last variable of this name has, which hides those before it
+abbrev pub bound : {A : Type 0} → List (ℕ × A) → ℕ → Option A
+bound [] name = None
+bound (v ∷ vs) name = or_else (bound vs name) (if v.0 == name then Some v.1 else None)
 
--- no symbol takes indices yet, and `as` has no rule yet
-abbrev pub judge_head : Declarations → ℕ → List Sort → Qualified → Judging Sort
-judge_head declarations at args (unqualified (symbol t)) = judge_function declarations at args t.name
-judge_head declarations at args (unqualified (indexed _ t is)) = refuse UnknownFunction at
-judge_head declarations at args (qualified _ i s) = refuse WrongTermForm at
+-- what stands for the function symbol in the typed term
+abbrev pub fun_of : Function → Fun
+fun_of (theory text) = fun.Theory
+fun_of (declared f) = fun.Declared f.number
 
--- a term under a table of texts, the live declarations and the theories of the logic; no theory has literals yet
+abbrev pub applied : Function → ℕ → List ℕ → Applied
+applied f name indices = record { fun = fun_of f; name = name; indices = indices; qualify = is_ambiguous f }
+
+-- a function symbol with its result sort, where it stands with these argument sorts in a term that begins at a byte
+abbrev pub judge_function : Signature → Function → ℕ → List Sort → Option Sort → ℕ → List ℕ → Judging (Applied × Sort)
+judge_function signature f at args asked name indices = do
+  result ← judge_rank (HasRank signature.theories f args) (is_ambiguous f) at asked
+  done (applied f name indices, result)
+
+-- .. written without indices
+abbrev pub judge_head : Signature → ℕ → List Sort → Option Sort → ℕ → Judging (Applied × Sort)
+judge_head signature at args asked name = do
+  f ← find (λ f. function_of signature name ≡ Some f) UnknownFunction at
+  judge_function signature f at args asked name []
+
+-- .. and with them: only (_ divisible n) is such a symbol, where n is one numeral and not zero
+abbrev pub judge_indexed_head : Signature → ℕ → List Sort → Option Sort → ℕ → List Tok → Judging (Applied × Sort)
+judge_indexed_head signature at args asked name is = do
+  f ← find (λ f. indexed_function signature name ≡ Some f) UnknownFunction at
+  i ← find (λ i. only_numeral is ≡ Some i) WrongIndex at
+  _ ← check (IsTrue (not (bytes_eq (text_of signature i.name) (codes "0")))) WrongIndex at
+  judge_function signature f at args asked name (i.name ∷ [])
+
+-- an application of a function symbol to arguments
+abbrev pub apply_head : Applied × Sort → List PlainTerm → PlainTerm
+apply_head head args = term tt head.1 (app head.0 (plain_terms args))
+
+-- a bound variable, which takes no argument and no `as`
+abbrev pub judge_variable : ℕ → List PlainTerm → Option Sort → ℕ → Sort → Judging PlainTerm
+judge_variable at args asked name s = do
+  _ ← check ((args ≡ []) × (asked ≡ None)) AppliedVariable at
+  done (term tt s (var name))
+
+-- A symbol with arguments that are judged already. A bound variable hides a function symbol of its name.
+abbrev pub judge_symbol : Signature → Option Sort → ℕ → List PlainTerm → Option Sort → ℕ → Judging PlainTerm
+judge_symbol signature (Some s) at args asked name = judge_variable at args asked name s
+judge_symbol signature None at args asked name = do
+  head ← judge_head signature at (map plain_sort args) asked name
+  done (apply_head head args)
+
+abbrev pub judge_indexed_symbol : Signature → ℕ → List PlainTerm → Option Sort → ℕ → List Tok → Judging PlainTerm
+judge_indexed_symbol signature at args asked name is = do
+  head ← judge_indexed_head signature at (map plain_sort args) asked name is
+  done (apply_head head args)
+
+abbrev pub judge_application : Signature → List (ℕ × Sort) → ℕ → List PlainTerm → Option Sort → Identifier → Judging PlainTerm
+judge_application signature vars at args asked (symbol t) = judge_symbol signature (bound vars t.name) at args asked t.name
+judge_application signature vars at args asked (indexed _ t is) = judge_indexed_symbol signature at args asked t.name is
+
+-- the sort that `as` names, if the head has it
+abbrev pub judge_asked : Signature → Qualified → Judging (Option Sort)
+judge_asked signature (unqualified i) = done None
+judge_asked signature (qualified _ i s) = do
+  asked ← judge_sort signature.texts signature.declarations signature.theories [] s
+  done (Some asked)
+
+abbrev pub identifier_of : Qualified → Identifier
+identifier_of (unqualified i) = i
+identifier_of (qualified _ i s) = i
+
+-- a head without arguments
+abbrev pub judge_constant : Signature → List (ℕ × Sort) → Qualified → Judging PlainTerm
+judge_constant signature vars q = do
+  asked ← judge_asked signature q
+  judge_application signature vars (qualified_at q) [] asked (identifier_of q)
+
+-- a literal
+abbrev pub judge_literal : Signature → Tok → Judging PlainTerm
+judge_literal signature t = do
+  s ← find (λ s. literal_sort signature.theories t ≡ Some s) LiteralWithoutSort t.at
+  done (term tt s (lit t.kind t.name))
+
+-- a term under a signature and the variables that are bound round it, the innermost last
 abbrev mutual
-  pub judge_term : List (List ℕ) → Declarations → Theories → Term → Judging Sort
-  judge_term texts declarations theories (constant t) = refuse LiteralWithoutSort t.at
-  judge_term texts declarations theories (qualified_term q) = judge_head declarations (qualified_at q) [] q
-  judge_term texts declarations theories (application at q ts) = do
-    args ← judge_terms texts declarations theories ts
-    judge_head declarations at args q
-  judge_term texts declarations theories (let_in at bs u) = refuse WrongTermForm at
-  judge_term texts declarations theories (for_all at vs u) = refuse WrongTermForm at
-  judge_term texts declarations theories (there_exists at vs u) = refuse WrongTermForm at
-  judge_term texts declarations theories (match_with at u cs) = refuse WrongTermForm at
-  judge_term texts declarations theories (annotated at u ns) = refuse WrongTermForm at
+  pub judge_term : Signature → List (ℕ × Sort) → syntax.Term → Judging PlainTerm
+  judge_term signature vars (constant t) = judge_literal signature t
+  judge_term signature vars (qualified_term q) = judge_constant signature vars q
+  judge_term signature vars (application at q ts) = do
+    asked ← judge_asked signature q
+    args ← judge_terms signature vars ts
+    judge_application signature vars at args asked (identifier_of q)
+  judge_term signature vars (let_in at bs u) = refuse WrongTermForm at
+  judge_term signature vars (for_all at vs u) = refuse WrongTermForm at
+  judge_term signature vars (there_exists at vs u) = refuse WrongTermForm at
+  judge_term signature vars (match_with at u cs) = refuse WrongTermForm at
+  judge_term signature vars (annotated at u ns) = refuse WrongTermForm at
 
-  pub judge_terms : List (List ℕ) → Declarations → Theories → Terms → Judging (List Sort)
-  judge_terms texts declarations theories no_terms = done []
-  judge_terms texts declarations theories (with_term t ts) = do
-    s ← judge_term texts declarations theories t
-    ss ← judge_terms texts declarations theories ts
-    done (s ∷ ss)
+  pub judge_terms : Signature → List (ℕ × Sort) → Terms → Judging (List PlainTerm)
+  judge_terms signature vars no_terms = done []
+  judge_terms signature vars (with_term t ts) = do
+    u ← judge_term signature vars t
+    us ← judge_terms signature vars ts
+    done (u ∷ us)
 
--- The term is well sorted with a sort, whatever names the command has declared so far; it declares none.
-abbrev pub TermHasSort : List (List ℕ) → Declarations → Theories → Term → Sort → Type 0
-TermHasSort texts declarations theories t s = (before : List ℕ) → judge_term texts declarations theories t before (well_sorted s before)
+-- The term is well sorted and this is its typed term, whatever names the command has declared so far; it declares none.
+abbrev pub Elaborates : Signature → List (ℕ × Sort) → syntax.Term → PlainTerm → Type 0
+Elaborates signature vars t u = (before : List ℕ) → judge_term signature vars t before (well_sorted u before)
 
 -- The first rule that the term does not meet.
-abbrev pub TermFault : List (List ℕ) → Declarations → Theories → Term → Place → Type 0
-TermFault texts declarations theories t place = (before : List ℕ) → judge_term texts declarations theories t before (ill_sorted place)
+abbrev pub TermFault : Signature → List (ℕ × Sort) → syntax.Term → Place → Type 0
+TermFault signature vars t place = (before : List ℕ) → judge_term signature vars t before (ill_sorted place)

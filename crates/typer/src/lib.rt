@@ -3,17 +3,20 @@
 
 mod apply;
 mod error;
-mod function;
+mod head;
 mod in_use;
 mod laws;
+mod live;
+mod made;
 mod numeral;
 mod sorts;
 mod symbol;
 mod terms;
+mod theory;
+mod typed;
 mod world;
 
 pub use error::TyError;
-pub use function::{AND, CoreFunction};
 pub use in_use::{is_fun_in_use, is_sort_in_use};
 pub use laws::{sort_laws, term_laws};
 pub use numeral::numeral_value;

@@ -21,8 +21,8 @@ use term_grammar::{
     RawIdentifier, RawIdentifierKind, RawIndices, RawSort, RawSortKind, RawSorts, is_numeral,
 };
 
-// The index, where there is one alone and it is a numeral.
-fn only_numeral(indices: &RawIndices) -> Option<Tok>
+/// The index, where there is one alone and it is a numeral.
+pub(crate) fn only_numeral(indices: &RawIndices) -> Option<Tok>
     ensures { result ≡ only_numeral_of indices.now }
 {
     let (first, rest) = indices.split()?;

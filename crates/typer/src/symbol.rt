@@ -20,8 +20,8 @@ pub(crate) fn text_of(names: &Names, name: NameId) -> &[u8]
     }
 }
 
-// Whether the name has the text.
-fn is_text(names: &Names, name: NameId, text: &[u8]) -> bool
+/// Whether the name has the text.
+pub(crate) fn is_text(names: &Names, name: NameId, text: &[u8]) -> bool
     ensures { result ≡ name_is_text names.now text.now name }
 {
     text_of(names, name) == text

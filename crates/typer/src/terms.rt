@@ -1,93 +1,328 @@
-//! The sorts of terms.
-ghost use Rattle.std.specs.Prelude.{◌≡◌, IfOk, [], map};
-ghost use Rattle.sort_store.specs.Interned.{IsInterned, AllInterned, HasNoRepeats, Grows};
-ghost use Rattle.sort_store.specs.Tree.{tree};
-ghost use Rattle.typer.specs.Answers.{Answers, tree_answer, trees_answer};
-ghost use Rattle.typer.specs.Declarations.{declarations_of};
+//! The typed terms of terms.
+ghost use Rattle.std.specs.Prelude.{◌≡◌, ◌↔◌, [], IfErr, IfOk, IfSome, IsTrue, None, map, option_map};
+ghost use Rattle.std.specs.Option.{option_copied};
+ghost use Rattle.sort_store.specs.Interned as sorts;
+ghost use Rattle.sort_store.specs.Tree as sort_tree;
+ghost use Rattle.term_store.specs.Interned as terms;
+ghost use Rattle.term_grammar.specs.Syntax as syntax;
+ghost use Rattle.term_grammar.specs.Syntax.{qualified_at};
+ghost use Rattle.term_store.specs.Term.{plain_var, tree};
+ghost use Rattle.typer.specs.Answers.{Answers, asked_answer, term_answer, typed_answer, typed_answers};
+ghost use Rattle.typer.specs.FunctionSymbols.{signature_of};
 ghost use Rattle.typer.specs.Ready.{IsReady};
-ghost use Rattle.typer.specs.TermRules.{judge_head, judge_term, judge_terms};
+ghost use Rattle.typer.specs.TermRules as spec;
+ghost use Rattle.typer.specs.TermRules.{apply_head, judge_application, judge_asked, judge_constant, judge_indexed_symbol, judge_literal, judge_symbol, judge_term, judge_terms, judge_variable};
+ghost use Rattle.typer.specs.Typed.{AreBound, AreTyped, HasGrown, IsTyped};
 
 use crate::error::{TyError, fault};
-use crate::function::function_sort;
+use crate::head::{TypedHead, head, indexed_head};
+use crate::made::{constant_sort, copy_of};
+use crate::sorts::type_sort;
+use crate::typed::{TypedTerm, TypedTerms, new_term};
 use crate::world::World;
+use lex_core::{NameId, Tok};
 use sig_table::Code;
-use sort_store::SortRef;
+use sort_store::{Head, SortRef};
 use term_grammar::{
-    RawIdentifierKind, RawQualified, RawQualifiedKind, RawTerm, RawTermKind, RawTerms,
+    RawIdentifier, RawIdentifierKind, RawIndices, RawQualified, RawQualifiedKind, RawTerm,
+    RawTermKind, RawTerms, is_numeral,
 };
+use term_store::{TermNode, TermRef};
 
-// The sort of the head of a term with its arguments, in a term that begins at a byte.
-fn head_sort(
-    world: &mut World,
-    at: u32,
-    args: &[SortRef],
-    head: &RawQualified,
-) -> Result<SortRef, TyError>
-    requires ready { IsReady world.old }
-    requires args { AllInterned world.old.sorts args.now }
-    ensures answer { Answers (tree_answer result)
-        (judge_head (declarations_of world.old.scopes) at (map tree args.now) head.now) }
-    ensures interned { IfOk result (λ r. IsInterned world.new.sorts r) }
-    ensures grows { Grows world.old.sorts world.new.sorts }
-    ensures distinct { HasNoRepeats world.new.sorts }
-    ensures others { world.new ≡ record world.old { sorts = world.new.sorts } }
+// What the last variable of this name has.
+#[tactic(auto, using(crate::proofs::BoundNames::bound_words))]
+fn bound(vars: &[(NameId, SortRef)], name: NameId) -> Option<&SortRef>
+    ensures { option_copied result ≡ spec.bound vars.now name }
 {
-    let RawQualifiedKind::Identifier(identifier) = head.kind() else {
-        return Err(fault(Code::WrongTermForm, at));
-    };
-    match identifier.kind() {
-        RawIdentifierKind::Symbol(tok) => function_sort(world, at, args, tok.name),
-        RawIdentifierKind::Indexed { .. } => Err(fault(Code::UnknownFunction, at)),
+    let mut found = None;
+    for var in vars {
+        if var.0 == name {
+            found = Some(&var.1);
+        }
     }
+    found
 }
 
-// The sorts of terms in order, or the first fault.
-#[cycle(terms)]
-#[tactic(auto, using(crate::proofs::ReadyKept::ready_words))]
-fn type_terms(world: &mut World, raws: &RawTerms) -> Result<Vec<SortRef>, TyError>
+// A literal.
+#[tactic(auto, using(crate::proofs::TypedSteps::typed_words))]
+fn literal(world: &mut World, tok: Tok) -> Result<TypedTerm, TyError>
     requires ready { IsReady world.old }
-    ensures answer { Answers (trees_answer result)
-        (judge_terms world.old.names (declarations_of world.old.scopes) world.old.theories raws.now) }
-    ensures interned { IfOk result (λ v. AllInterned world.new.sorts v.items) }
-    ensures grows { Grows world.old.sorts world.new.sorts }
-    ensures others { world.new ≡ record world.old { sorts = world.new.sorts } }
+    ensures answer { Answers (typed_answer result) (judge_literal (signature_of world.old) tok) }
+    ensures typed { IfOk result (IsTyped world.new) }
+    ensures grown { HasGrown world.old world.new }
     ensures ready { IsReady world.new }
 {
-    let mut sorts = Vec::new(world.alloc);
-    let mut next = raws.split();
-    while let Some((first, rest)) = next {
-        let sort = type_term(world, &first)?;
-        match sorts.push(sort) {
-            Ok(()) => {}
-            Err(_) => return Err(TyError::NoMemory),
-        }
-        next = rest.split();
+    if !world.theories.ints || !is_numeral(&tok) {
+        return Err(fault(Code::LiteralWithoutSort, tok.at));
     }
-    Ok(sorts)
+    let sort = constant_sort(&mut world.sorts, Head::Int)?;
+    let node = TermNode::Lit {
+        kind: tok.kind,
+        text: tok.name,
+    };
+    new_term(world, node, sort)
 }
 
-/// The sort of a term (SMT-LIB 2.6, section 3.6). The errors are the first rule that it does not
-/// meet, with its byte, and that memory runs out. The store of sorts only grows, also before an
-/// error; all else stays as it was.
-#[cycle(terms)]
-#[tactic(auto, using(crate::proofs::ReadyKept::ready_words))]
-pub fn type_term(world: &mut World, raw: &RawTerm) -> Result<SortRef, TyError>
+// Whether a symbol stands without arguments and without `as`.
+fn stands_alone(args: &TypedTerms, asked: &Option<SortRef>) -> bool
+    ensures { IsTrue result ↔ ((map tree args.now.terms.items ≡ []) × (option_map sort_tree.tree asked.now ≡ None)) }
+{
+    args.terms.is_empty() && asked.is_none()
+}
+
+// A bound variable of this sort, with what stands round it.
+fn variable(
+    world: &mut World,
+    at: u32,
+    args: &TypedTerms,
+    asked: &Option<SortRef>,
+    name: NameId,
+    sort: &SortRef,
+) -> Result<TypedTerm, TyError>
     requires ready { IsReady world.old }
-    ensures answer { Answers (tree_answer result)
-        (judge_term world.old.names (declarations_of world.old.scopes) world.old.theories raw.now) }
-    ensures interned { IfOk result (λ r. IsInterned world.new.sorts r) }
-    ensures grows { Grows world.old.sorts world.new.sorts }
-    ensures others { world.new ≡ record world.old { sorts = world.new.sorts } }
+    requires sort { sorts.IsInterned world.old.sorts sort.now }
+    ensures answer { Answers (typed_answer result)
+        (judge_variable at (map tree args.now.terms.items) (option_map sort_tree.tree asked.now) name (sort_tree.tree sort.now)) }
+    ensures typed { IfOk result (IsTyped world.new) }
+    ensures grown { HasGrown world.old world.new }
+    ensures ready { IsReady world.new }
+{
+    if !stands_alone(args, asked) {
+        return Err(fault(Code::AppliedVariable, at));
+    }
+    let sort = copy_of(sort)?;
+    new_term(world, TermNode::Var(name), sort)
+}
+
+// A function symbol with its arguments.
+fn apply(world: &mut World, head: TypedHead, args: TypedTerms) -> Result<TypedTerm, TyError>
+    requires ready { IsReady world.old }
+    requires args { AreTyped world.old args }
+    requires head { sorts.IsInterned world.old.sorts head.sort }
+    ensures answer { IfOk result (λ t. tree t.term ≡ apply_head (head.applied, sort_tree.tree head.sort) (map tree args.terms.items)) }
+    ensures typed { IfOk result (IsTyped world.new) }
+    ensures grown { HasGrown world.old world.new }
+    ensures ready { IsReady world.new }
+    ensures err { IfErr result (λ e. e ≡ TyError.NoMemory) }
+{
+    let node = TermNode::App {
+        head: head.applied,
+        args: args.terms,
+    };
+    new_term(world, node, head.sort)
+}
+
+// A symbol with its arguments, in a term that begins at a byte.
+fn symbol(
+    world: &mut World,
+    vars: &[(NameId, SortRef)],
+    at: u32,
+    args: TypedTerms,
+    asked: &Option<SortRef>,
+    name: NameId,
+) -> Result<TypedTerm, TyError>
+    requires ready { IsReady world.old }
+    requires vars { AreBound world.old vars.now }
+    requires args { AreTyped world.old args }
+    requires asked { IfSome asked.now (sorts.IsInterned world.old.sorts) }
+    ensures answer { Answers (typed_answer result)
+        (judge_symbol (signature_of world.old) (spec.bound (map plain_var vars.now) name) at (map tree args.terms.items) (option_map sort_tree.tree asked.now) name) }
+    ensures typed { IfOk result (IsTyped world.new) }
+    ensures grown { HasGrown world.old world.new }
+    ensures ready { IsReady world.new }
+{
+    match bound(vars, name) {
+        Some(sort) => variable(world, at, &args, asked, name, sort),
+        None => match head(world, at, &args.sorts, asked, name) {
+            Ok(head) => apply(world, head, args),
+            Err(error) => Err(error),
+        },
+    }
+}
+
+// An indexed symbol with its arguments, in a term that begins at a byte.
+fn indexed_symbol(
+    world: &mut World,
+    at: u32,
+    args: TypedTerms,
+    asked: &Option<SortRef>,
+    name: NameId,
+    indices: &RawIndices,
+) -> Result<TypedTerm, TyError>
+    requires ready { IsReady world.old }
+    requires args { AreTyped world.old args }
+    requires asked { IfSome asked.now (sorts.IsInterned world.old.sorts) }
+    ensures answer { Answers (typed_answer result)
+        (judge_indexed_symbol (signature_of world.old) at (map tree args.terms.items) (option_map sort_tree.tree asked.now) name indices.now) }
+    ensures typed { IfOk result (IsTyped world.new) }
+    ensures grown { HasGrown world.old world.new }
+    ensures ready { IsReady world.new }
+{
+    match indexed_head(world, at, &args.sorts, asked, name, indices) {
+        Ok(head) => apply(world, head, args),
+        Err(error) => Err(error),
+    }
+}
+
+// An identifier with its arguments, in a term that begins at a byte.
+fn application(
+    world: &mut World,
+    vars: &[(NameId, SortRef)],
+    at: u32,
+    args: TypedTerms,
+    asked: &Option<SortRef>,
+    identifier: &RawIdentifier,
+) -> Result<TypedTerm, TyError>
+    requires ready { IsReady world.old }
+    requires vars { AreBound world.old vars.now }
+    requires args { AreTyped world.old args }
+    requires asked { IfSome asked.now (sorts.IsInterned world.old.sorts) }
+    ensures answer { Answers (typed_answer result)
+        (judge_application (signature_of world.old) (map plain_var vars.now) at (map tree args.terms.items) (option_map sort_tree.tree asked.now) identifier.now) }
+    ensures typed { IfOk result (IsTyped world.new) }
+    ensures grown { HasGrown world.old world.new }
+    ensures ready { IsReady world.new }
+{
+    match identifier.kind() {
+        RawIdentifierKind::Symbol(tok) => symbol(world, vars, at, args, asked, tok.name),
+        RawIdentifierKind::Indexed { name, indices } => indexed_symbol(
+            world, at, args, asked, name.name, &indices,
+        ),
+    }
+}
+
+// The sort that `as` names, if the head has it.
+fn asked_sort(world: &mut World, head: &RawQualified) -> Result<Option<SortRef>, TyError>
+    requires ready { IsReady world.old }
+    ensures answer { Answers (asked_answer result) (judge_asked (signature_of world.old) head.now) }
+    ensures interned { IfOk result (λ asked. IfSome asked (sorts.IsInterned world.new.sorts)) }
+    ensures grown { HasGrown world.old world.new }
+    ensures ready { IsReady world.new }
+{
+    match head.kind() {
+        RawQualifiedKind::Identifier(_) => Ok(None),
+        RawQualifiedKind::As { sort, .. } => match type_sort(world, &[], sort) {
+            Ok(sort) => Ok(Some(sort)),
+            Err(error) => Err(error),
+        },
+    }
+}
+
+// The identifier of a head.
+fn identifier_of<'t>(head: &RawQualified<'t>) -> RawIdentifier<'t>
+    ensures { result ≡ spec.identifier_of head.now }
+{
+    match head.kind() {
+        RawQualifiedKind::Identifier(identifier) => identifier,
+        RawQualifiedKind::As { identifier, .. } => identifier,
+    }
+}
+
+// The typed terms of terms in order, or the first fault.
+#[cycle(terms)]
+fn elaborate_all(
+    world: &mut World,
+    vars: &[(NameId, SortRef)],
+    raws: &RawTerms,
+) -> Result<TypedTerms, TyError>
+    requires ready { IsReady world.old }
+    requires vars { AreBound world.old vars.now }
+    ensures answer { Answers (typed_answers result) (judge_terms (signature_of world.old) (map plain_var vars.now) raws.now) }
+    ensures typed { IfOk result (AreTyped world.new) }
+    ensures grown { HasGrown world.old world.new }
+    ensures ready { IsReady world.new }
+{
+    let mut typed = TypedTerms::new(world.alloc);
+    let mut next = raws.split();
+    while let Some((first, rest)) = next {
+        let term = elaborate(world, vars, &first)?;
+        typed.push(term)?;
+        next = rest.split();
+    }
+    Ok(typed)
+}
+
+// A head without arguments.
+fn constant(
+    world: &mut World,
+    vars: &[(NameId, SortRef)],
+    at: u32,
+    head: &RawQualified,
+) -> Result<TypedTerm, TyError>
+    requires ready { IsReady world.old }
+    requires vars { AreBound world.old vars.now }
+    requires at { at ≡ qualified_at head.now }
+    ensures answer { Answers (typed_answer result) (judge_constant (signature_of world.old) (map plain_var vars.now) head.now) }
+    ensures typed { IfOk result (IsTyped world.new) }
+    ensures grown { HasGrown world.old world.new }
+    ensures ready { IsReady world.new }
+{
+    let asked = asked_sort(world, head)?;
+    let args = TypedTerms::new(world.alloc);
+    application(world, vars, at, args, &asked, &identifier_of(head))
+}
+
+// A head with its arguments, in a term that begins at a byte.
+#[cycle(terms)]
+fn elaborate_applied(
+    world: &mut World,
+    vars: &[(NameId, SortRef)],
+    at: u32,
+    head: &RawQualified,
+    args: &RawTerms,
+) -> Result<TypedTerm, TyError>
+    requires ready { IsReady world.old }
+    requires vars { AreBound world.old vars.now }
+    ensures answer { Answers (typed_answer result) (judge_term (signature_of world.old) (map plain_var vars.now) (syntax.application at head.now args.now)) }
+    ensures typed { IfOk result (IsTyped world.new) }
+    ensures grown { HasGrown world.old world.new }
+    ensures ready { IsReady world.new }
+{
+    let asked = asked_sort(world, head)?;
+    let args = elaborate_all(world, vars, args)?;
+    application(world, vars, at, args, &asked, &identifier_of(head))
+}
+
+// The typed term of a term, or the first fault.
+#[cycle(terms)]
+fn elaborate(
+    world: &mut World,
+    vars: &[(NameId, SortRef)],
+    raw: &RawTerm,
+) -> Result<TypedTerm, TyError>
+    requires ready { IsReady world.old }
+    requires vars { AreBound world.old vars.now }
+    ensures answer { Answers (typed_answer result) (judge_term (signature_of world.old) (map plain_var vars.now) raw.now) }
+    ensures typed { IfOk result (IsTyped world.new) }
+    ensures grown { HasGrown world.old world.new }
     ensures ready { IsReady world.new }
 {
     let at = raw.at();
     match raw.kind() {
-        RawTermKind::Constant(_) => Err(fault(Code::LiteralWithoutSort, at)),
-        RawTermKind::Qualified(head) => head_sort(world, at, &[], &head),
-        RawTermKind::Application { head, args } => {
-            let args = type_terms(world, &args)?;
-            head_sort(world, at, &args, &head)
-        }
+        RawTermKind::Constant(tok) => literal(world, tok),
+        RawTermKind::Qualified(head) => constant(world, vars, at, &head),
+        RawTermKind::Application { head, args } => elaborate_applied(world, vars, at, &head, &args),
         _ => Err(fault(Code::WrongTermForm, at)),
+    }
+}
+
+/// The typed term of a term (SMT-LIB 2.6, section 3.6), where these variables are bound round it, the innermost last. The errors
+/// are the first rule that it does not meet, with its byte, and that memory runs out. The stores of sorts and terms only grow,
+/// also before an error; all else stays as it was.
+pub fn type_term(
+    world: &mut World,
+    vars: &[(NameId, SortRef)],
+    raw: RawTerm,
+) -> Result<TermRef, TyError>
+    requires ready { IsReady world.old }
+    requires vars { AreBound world.old vars.now }
+    ensures answer { Answers (term_answer result) (judge_term (signature_of world.old) (map plain_var vars.now) raw.entry) }
+    ensures interned { IfOk result (terms.IsInterned world.new.terms) }
+    ensures grown { HasGrown world.old world.new }
+    ensures ready { IsReady world.new }
+{
+    match elaborate(world, vars, &raw) {
+        Ok(typed) => Ok(typed.term),
+        Err(error) => Err(error),
     }
 }

@@ -10,14 +10,17 @@ use scope_stack::Scopes;
 use sig_table::Theories;
 use sort_store::SortStore;
 use std::alloc::Global;
+use term_store::TermStore;
 
-/// What the sorting rules look at: the names, the sorts made so far, the live declarations and the
-/// theories of the logic.
+/// What the sorting rules look at: the live declarations, the terms and sorts made so far, the names
+/// and the theories of the logic. What holds sorts stands above the store that made them, so that no
+/// drop runs deep.
 #[derive(Drop)]
 pub struct World {
-    pub names: Names,
-    pub sorts: SortStore,
     pub scopes: Scopes,
+    pub terms: TermStore,
+    pub sorts: SortStore,
+    pub names: Names,
     pub theories: Theories,
     pub(crate) alloc: Global,
 }
@@ -27,6 +30,7 @@ impl World {
     pub fn new(alloc: Global) -> Result<World, NoMemory>
         ensures names { IfOk result (λ w. w.names ≡ fixed_texts) }
         ensures sorts { IfOk result (λ w. w.sorts ≡ []) }
+        ensures terms { IfOk result (λ w. w.terms ≡ []) }
         ensures scopes { IfOk result (λ w. w.scopes ≡ empty) }
         ensures theories { IfOk result (λ w. w.theories ≡ record { ints = false; arrays = false; bits = false }) }
         ensures ready { IfOk result (λ w. IsReady w) }
@@ -36,10 +40,12 @@ impl World {
             arrays: false,
             bits: false,
         };
+        let names = Names::new(alloc)?;
         Ok(World {
-            names: Names::new(alloc)?,
-            sorts: SortStore::new(alloc),
             scopes: Scopes::new(alloc),
+            terms: TermStore::new(alloc),
+            sorts: SortStore::new(alloc),
+            names,
             theories,
             alloc,
         })

@@ -1,26 +1,30 @@
-use Rattle.std.proofs.Common.{◌≤◌}
-use Rattle.sort_store.specs.Interned.{AllInterned, Grows}
+use Rattle.std.proofs.Common.{◌≤◌, suc, map}
+use Rattle.term_store.specs.Term.{plain_var, tree}
+use Rattle.typer.specs.FunctionSymbols.{signature_of}
 use Rattle.typer.specs.Ready.{IsReady}
-use Rattle.typer.proofs.SortSteps.{OthersStay}
+use Rattle.typer.specs.TermRules.{judge_terms}
+use Rattle.typer.specs.Typed.{AreTyped, HasGrown}
 use Rattle.typer.proofs.ListSteps.{Onward}
-use Rattle.typer.proofs.TermSteps.{size, sizes, left, terms_in}
+use Rattle.typer.proofs.TermSteps.{size, sizes, left}
 use Rattle.typer.proofs.terms.+terms.Given as goal
 
-abbrev pub decreases-type_term : goal.decreases-type_term
-decreases-type_term l = size l.raw.now
+abbrev pub decreases-elaborate : goal.decreases-elaborate
+decreases-elaborate l = size l.raw.now
 
-abbrev pub decreases-type_terms : goal.decreases-type_terms
-decreases-type_terms l = sizes l.raws.now
+abbrev pub decreases-elaborate_applied : goal.decreases-elaborate_applied
+decreases-elaborate_applied l = suc (sizes l.args.now)
 
-abbrev pub invariant-type_terms-loop-next : goal.invariant-type_terms-loop-next
-invariant-type_terms-loop-next l = record {
-  onward : Onward (terms_in l.fn.world) l.raws (left l.next) l.sorts.items;
-  interned : AllInterned l.world.sorts l.sorts.items;
-  grows : Grows l.fn.world.sorts l.world.sorts;
-  others : OthersStay l.fn.world l.world;
+abbrev pub decreases-elaborate_all : goal.decreases-elaborate_all
+decreases-elaborate_all l = sizes l.raws.now
+
+abbrev pub invariant-elaborate_all-loop-next : goal.invariant-elaborate_all-loop-next
+invariant-elaborate_all-loop-next l = record {
+  onward : Onward (judge_terms (signature_of l.fn.world) (map plain_var l.vars)) l.raws (left l.next) (map tree l.typed.terms.items);
+  typed : AreTyped l.world l.typed;
+  grown : HasGrown l.fn.world l.world;
   ready : IsReady l.world;
   smaller : sizes (left l.next) ≤ sizes l.raws;
 }
 
-abbrev pub decreases-type_terms-loop-next : goal.decreases-type_terms-loop-next
-decreases-type_terms-loop-next l = sizes (left l.next)
+abbrev pub decreases-elaborate_all-loop-next : goal.decreases-elaborate_all-loop-next
+decreases-elaborate_all-loop-next l = sizes (left l.next)

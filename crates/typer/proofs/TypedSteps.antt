@@ -1,0 +1,94 @@
+-- What is true of typed terms stays true as the world's stores grow.
+use Rattle.std.proofs.Common.{◌≡◌, ℕ, List, [], ◌∷◌, ◌++◌, map, Option, Some, None, refl, ap, sym, ◌∙◌, subst}
+use Rattle.std.specs.Option.{IfSome}
+use Rattle.std.proofs.lemmas.List.{map-append}
+use Rattle.sort_store.specs.Tree.{Sort, NumberedSort}
+use Rattle.sort_store.specs.Tree as sort_tree
+use Rattle.sort_store.specs.Interned as sorts
+use Rattle.sort_store.proofs.GrownStores as sort_stores
+use Rattle.term_store.specs.NumberedNodes.{term_of}
+use Rattle.term_store.specs.declared.term.TermNode.{TermNode}
+use Rattle.term_store.specs.Term.{NumberedTerm, PlainTerm, tree, plain_sort}
+use Rattle.term_store.specs.Interned as terms
+use Rattle.term_store.proofs.InternedTerms as term_stores
+use Rattle.typer.specs.declared.typed.TypedTerm.{TypedTerm}
+use Rattle.typer.specs.declared.typed.TypedTerms.{TypedTerms}
+use Rattle.typer.specs.declared.world.World.{World}
+use Rattle.typer.specs.FunctionSymbols.{signature_of}
+use Rattle.typer.specs.Ready.{IsReady}
+use Rattle.typer.specs.Typed.{AreBound, AreTyped, HasGrown, IsTyped}
+use Rattle.typer.proofs.ReadyKept.{ready_kept}
+
+abbrev with_stores : List Sort → List PlainTerm → World → World
+with_stores s t world = record world { sorts = s; terms = t }
+
+-- growing
+pub grown_none : (world : World) → HasGrown world world
+grown_none world = record { sorts = sort_stores.grows_none world.sorts; terms = term_stores.grows_none world.terms; others = refl }
+
+pub grown_more : (a b c : World) → HasGrown a b → HasGrown b c → HasGrown a c
+grown_more a b c h k = record {
+  sorts = sort_stores.grows_more a.sorts b.sorts c.sorts h.sorts k.sorts;
+  terms = term_stores.grows_more a.terms b.terms c.terms h.terms k.terms;
+  others = k.others ∙ ap (with_stores c.sorts c.terms) h.others;
+}
+
+pub grown_sorts : (old new : World) → sorts.Grows old.sorts new.sorts → new ≡ record old { sorts = new.sorts } → HasGrown old new
+grown_sorts old new g e = record {
+  sorts = g;
+  terms = subst (terms.Grows old.terms) (ap (λ (w : World). w.terms) (sym e)) (term_stores.grows_none old.terms);
+  others = e ∙ ap (λ t. with_stores new.sorts t old) (ap (λ (w : World). w.terms) (sym e));
+}
+
+pub grown_terms : (old : World) (made : List PlainTerm) → terms.Grows old.terms made → HasGrown old (record old { terms = made })
+grown_terms old made g = record { sorts = sort_stores.grows_none old.sorts; terms = g; others = refl }
+
+-- what does not change
+pub same_signature : (old new : World) → HasGrown old new → signature_of new ≡ signature_of old
+same_signature old new h = ap signature_of h.others
+
+pub ready_with_terms : (old : World) (made : List PlainTerm) → IsReady old → IsReady (record old { terms = made })
+ready_with_terms old made ready = record { distinct = ready.distinct; sorts = ready.sorts; funs = ready.funs }
+
+module _ (old new : World) (grown : HasGrown old new) where
+  pub sort_grown : (r : NumberedSort) → sorts.IsInterned old.sorts r → sorts.IsInterned new.sorts r
+  sort_grown r h = sort_stores.interned_grown old.sorts new.sorts r grown.sorts h
+
+  pub asked_grown : (o : Option NumberedSort) → IfSome o (sorts.IsInterned old.sorts) → IfSome o (sorts.IsInterned new.sorts)
+  asked_grown (Some r) h = sort_grown r h
+  asked_grown None h = h
+
+  pub bound_grown : (vars : List (ℕ × NumberedSort)) → AreBound old vars → AreBound new vars
+  bound_grown vars h = sort_stores.all_interned_grown old.sorts new.sorts (map (λ v. v.1) vars) grown.sorts h
+
+  pub typed_grown : (t : TypedTerm) → IsTyped old t → IsTyped new t
+  typed_grown t h = record { term = term_stores.interned_grown old.terms new.terms t.term grown.terms h.term; sort = sort_grown t.sort h.sort; same = h.same }
+
+  pub all_typed_grown : (ts : TypedTerms) → AreTyped old ts → AreTyped new ts
+  all_typed_grown ts h = record {
+    terms = term_stores.all_interned_grown old.terms new.terms ts.terms.items grown.terms h.terms;
+    sorts = sort_stores.all_interned_grown old.sorts new.sorts ts.sorts.items grown.sorts h.sorts;
+    same = h.same;
+  }
+
+-- no terms, and one more
+pub none_typed : (world : World) (ts : TypedTerms) → ts.terms.items ≡ [] → ts.sorts.items ≡ [] → AreTyped world ts
+none_typed world ts e f = record {
+  terms = subst (terms.AllInterned world.terms) (sym e) tt;
+  sorts = subst (sorts.AllInterned world.sorts) (sym f) tt;
+  same = ap (map sort_tree.tree) f ∙ sym (ap (λ z. map plain_sort (map tree z)) e);
+}
+
+pub typed_push : (world : World) (old new : TypedTerms) (t : TypedTerm) → AreTyped world old → IsTyped world t → new.terms.items ≡ old.terms.items ++ t.term ∷ [] → new.sorts.items ≡ old.sorts.items ++ t.sort ∷ [] → AreTyped world new
+typed_push world old new t h k e f = record {
+  terms = subst (terms.AllInterned world.terms) (sym e) (term_stores.all_interned_push world.terms old.terms.items t.term h.terms k.term);
+  sorts = subst (sorts.AllInterned world.sorts) (sym f) (sort_stores.all_interned_push world.sorts old.sorts.items t.sort h.sorts k.sort);
+  same = ap (map sort_tree.tree) f ∙ map-append sort_tree.tree old.sorts.items (t.sort ∷ []) ∙ ap (λ z. z ++ sort_tree.tree t.sort ∷ []) h.same ∙ ap (λ z. map plain_sort (map tree old.terms.items) ++ z ∷ []) k.same
+      ∙ sym (ap (λ z. map plain_sort (map tree z)) e ∙ ap (map plain_sort) (map-append tree old.terms.items (t.term ∷ [])) ∙ map-append plain_sort (map tree old.terms.items) (tree t.term ∷ []));
+}
+
+-- the sort of a term that was made
+pub made_sort : (t : NumberedTerm) (s : NumberedSort) (x : TermNode) → tree t ≡ term_of s x → sort_tree.tree s ≡ plain_sort (tree t)
+made_sort t s x e = sym (ap plain_sort e)
+
+pub ruleset typed_words = (grown_none, grown_more, grown_sorts, sort_grown, asked_grown, bound_grown, typed_grown, all_typed_grown, none_typed, ready_kept)

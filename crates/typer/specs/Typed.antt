@@ -1,0 +1,31 @@
+-- Typed terms with their sorts, and what a world keeps as it makes them.
+use Rattle.std.specs.Prelude.{◌≡◌, ℕ, List, map}
+use Rattle.sort_store.specs.Tree.{NumberedSort}
+use Rattle.sort_store.specs.Tree as sort_tree
+use Rattle.sort_store.specs.Interned as sorts
+use Rattle.term_store.specs.Term.{tree, plain_sort}
+use Rattle.term_store.specs.Interned as terms
+use Rattle.typer.specs.declared.world.World.{World}
+use Rattle.typer.specs.declared.typed.TypedTerm.{TypedTerm}
+use Rattle.typer.specs.declared.typed.TypedTerms.{TypedTerms}
+
+-- the world's stores made the term and the sort, which is the term's
+pub record IsTyped (world : World) (typed : TypedTerm) : Type 0 where
+  pub term : terms.IsInterned world.terms typed.term
+  pub sort : sorts.IsInterned world.sorts typed.sort
+  pub same : sort_tree.tree typed.sort ≡ plain_sort (tree typed.term)
+
+pub record AreTyped (world : World) (typed : TypedTerms) : Type 0 where
+  pub terms : terms.AllInterned world.terms typed.terms.items
+  pub sorts : sorts.AllInterned world.sorts typed.sorts.items
+  pub same : map sort_tree.tree typed.sorts.items ≡ map plain_sort (map tree typed.terms.items)
+
+-- the store made the sorts of the variables
+abbrev pub AreBound : World → List (ℕ × NumberedSort) → Type 0
+AreBound world vars = sorts.AllInterned world.sorts (map (λ v. v.1) vars)
+
+-- the stores of sorts and terms have grown, or not, and nothing else has changed
+pub record HasGrown (old new : World) : Type 0 where
+  pub sorts : sorts.Grows old.sorts new.sorts
+  pub terms : terms.Grows old.terms new.terms
+  pub others : new ≡ record old { sorts = new.sorts; terms = new.terms }
