@@ -10,6 +10,7 @@ use Rattle.lex_core.specs.declared.token.Tok.{Tok}
 use Rattle.lex_core.specs.declared.token.TokKind.{TokKind}
 use Rattle.lex_core.specs.declared.token.TokKind.TheVariants as kind
 use Rattle.sig_table.specs.declared.code.Code.{Code}
+use Rattle.sig_table.specs.declared.theories.Theories.{Theories}
 use Rattle.sexp_core.proofs.MappedReading.{fault-map, map_none, open_count-map, unfinished-map}
 use Rattle.sexp_core.proofs.MappedSexps.{flat-map_sexp, map_flat-flat_of}
 use Rattle.sexp_core.proofs.TokensRead.{reads_list, reads_more, reads_nothing}
@@ -27,8 +28,8 @@ use Rattle.script_core.specs.declared.checker.Checker.{Checker}
 use Rattle.script_core.specs.declared.refusal.Progress.TheVariants as progress
 use Rattle.script_core.specs.declared.refusal.Refusal.{Refusal}
 use Rattle.script_core.specs.Acceptance.{place_of}
-use Rattle.script_core.specs.Checking.{Awaits, Exits, Follows, HasTaken, HasTokensOf, IsReadyCore, TakesTree, TokenBreaks, environment_of, texts_of}
-use Rattle.script_core.specs.Environment.{Environment, start}
+use Rattle.script_core.specs.Checking.{Awaits, Exits, Follows, HasTaken, HasTokensOf, IsReadyScope, TakesTree, TokenBreaks, environment_of, texts_of}
+use Rattle.script_core.specs.Environment.{Environment, core_alone, start}
 use Rattle.script_core.specs.Interned.{AreInterned, sexp_of}
 use Rattle.script_core.specs.Numbering.{numbered_sexp, table_after}
 use Rattle.script_core.specs.Steps.{all_taken, exited, judge_list, judge_tree}
@@ -101,8 +102,7 @@ follows_inside tokens c tok new w named held unfinished fine =
       interned = subst (λ (s : State). AreInterned c.scope.world.names s.0) (sym held) (interned_last c.scope.world.names u tok f.interned named);
       table = subst (λ (s : State). c.scope.world.names ≡ table_after f.names (texts_of c.scope.world.names s.0)) (sym held)
           (next_table w.known tokens c (token_of c.scope.world.names tok) f w.names ∙ ap (λ (fs : List (FlatToken Token)). table_after f.names fs) (sym last));
-      ready = f.ready;
-      core = f.core;
+      stands = f.stands;
     }
 
 is_list_told : (texts : List (List ℕ)) (t : Sexp Tok) → IsList t → IsList (sexp_of texts t)
@@ -139,7 +139,7 @@ one_more commands command old new counted more = omega (arith, counted, more, le
 -- the next token completes a list, which is taken
 pub follows_list : (tokens : List Token) (c n : Checker) (tok : Tok) (t : Sexp Tok) → Awaits tokens (token_of c.scope.world.names tok ∷ []) c → IsNameTable c.scope.world.names → tok.name < length c.scope.world.names
     → IsList t → flat t ≡ c.builder.0 ++ flat_tok tok ∷ [] → n.builder ≡ ([], None) → n.scope.world.names ≡ c.scope.world.names
-    → TakesTree (environment_of c.scope.world.names c.scope) t progress.More (environment_of c.scope.world.names n.scope) → n.count ≡ c.count + 1 → IsReadyCore n.scope.world
+    → TakesTree (environment_of c.scope.world.names c.scope) t progress.More (environment_of c.scope.world.names n.scope) → n.count ≡ c.count + 1 → IsReadyScope n.scope
     → HasTokensOf (tokens ++ token_of c.scope.world.names tok ∷ []) n
 follows_list tokens c n tok t w table named is_list e emptied same (command, declared, judged, goes) counted stands =
     let f = w.follows in
@@ -156,8 +156,7 @@ follows_list tokens c n tok t w table named is_list e emptied same (command, dec
       counted = one_more f.commands command c.count n.count f.counted counted;
       interned = subst (λ (s : State). AreInterned n.scope.world.names s.0) (sym emptied) tt;
       table = subst (λ (s : State). n.scope.world.names ≡ table_after c.scope.world.names (texts_of n.scope.world.names s.0)) (sym emptied) same;
-      ready = stands.ready;
-      core = stands.core;
+      stands = stands;
     }
 
 -- the next token completes an `exit`
@@ -247,14 +246,13 @@ follows_grown known tokens c new lexer e f =
       counted = f.counted;
       interned = grown_interned c.scope.world.names new c.builder.0 e f.interned;
       table = f.table ∙ ap (λ (fs : List (FlatToken Token)). table_after f.names fs) (sym same);
-      ready = ready_with_names c.scope.world new e f.ready;
-      core = f.core;
+      stands = record { ready = ready_with_names c.scope.world new e f.stands.ready; undeclared = f.stands.undeclared };
     }
 
 -- nothing was taken yet
-pub starts : (c : Checker) → c.builder ≡ ([], None) → c.scope.logic ≡ false → c.scope.world.scopes ≡ empty → c.scope.next ≡ 0 → c.count ≡ 0 → HasRead [] [] c.lexer
-    → c.scope.world.names ≡ fixed_texts → IsNameTable c.scope.world.names → IsReadyCore c.scope.world → length c.scope.world.names ≤ 57 → HasTaken [] c
-starts c builder logic scopes next count read names table stands few = record {
+pub starts : (c : Checker) → c.builder ≡ ([], None) → c.scope.logic ≡ false → c.scope.world.theories ≡ core_alone → c.scope.world.scopes ≡ empty → c.scope.next ≡ 0 → c.count ≡ 0 → HasRead [] [] c.lexer
+    → c.scope.world.names ≡ fixed_texts → IsNameTable c.scope.world.names → IsReadyScope c.scope → length c.scope.world.names ≤ 57 → HasTaken [] c
+starts c builder logic theories scopes next count read names table stands few = record {
   tokens = [];
   read = read;
   follows = record {
@@ -264,15 +262,15 @@ starts c builder logic scopes next count read names table stands few = record {
     reads = subst (λ (s : State). Reads [] [] (texts_of c.scope.world.names s.0)) (sym builder) reads_nothing;
     no_error = ap (λ (s : State). s.1) builder;
     runs = ap (λ (e : Environment). record { commands = []; env = e; cause = all_taken })
-        (ap (λ (ns : List (List ℕ)). record { names = ns; logic = c.scope.logic; declarations = declarations_of c.scope.world.scopes; next = c.scope.next }) names
-        ∙ (ap (λ (b : Bool). record { names = fixed_texts; logic = b; declarations = declarations_of c.scope.world.scopes; next = c.scope.next }) logic
-        ∙ (ap (λ (d : Scopes). record { names = fixed_texts; logic = false; declarations = declarations_of d; next = c.scope.next }) scopes
-        ∙ ap (λ (n : ℕ). record { names = fixed_texts; logic = false; declarations = no_declarations; next = n }) next)));
+        (ap (λ (ns : List (List ℕ)). record { names = ns; logic = c.scope.logic; theories = c.scope.world.theories; declarations = declarations_of c.scope.world.scopes; next = c.scope.next }) names
+        ∙ (ap (λ (b : Bool). record { names = fixed_texts; logic = b; theories = c.scope.world.theories; declarations = declarations_of c.scope.world.scopes; next = c.scope.next }) logic
+        ∙ (ap (λ (t : Theories). record { names = fixed_texts; logic = false; theories = t; declarations = declarations_of c.scope.world.scopes; next = c.scope.next }) theories
+        ∙ (ap (λ (d : Scopes). record { names = fixed_texts; logic = false; theories = core_alone; declarations = declarations_of d; next = c.scope.next }) scopes
+        ∙ ap (λ (n : ℕ). record { names = fixed_texts; logic = false; theories = core_alone; declarations = no_declarations; next = n }) next))));
     counted = count;
     interned = subst (λ (s : State). AreInterned c.scope.world.names s.0) (sym builder) tt;
     table = subst (λ (s : State). c.scope.world.names ≡ table_after c.scope.world.names (texts_of c.scope.world.names s.0)) (sym builder) refl;
-    ready = stands.ready;
-    core = stands.core;
+    stands = stands;
   };
   table = table;
   few_names = omega (arith, few);

@@ -1,17 +1,14 @@
 -- Each list has exactly one outcome as the next command.
-use Rattle.std.proofs.Common.{◌≡◌, ℕ, Bool, true, false, List, [], ◌∷◌, ◌++◌, Option, Some, None, refl, ap, sym, ◌∙◌, ◌⊎◌, inl, inr, codes}
-use Rattle.std.specs.Prelude.{slice_get}
-use Rattle.std.specs.Str.{bytes_eq}
-use Rattle.std.proofs.lemmas.Bool.{cases_Bool, false≢true}
-use Rattle.std.proofs.lemmas.Slice.Eq.{bytes_eq-Decides}
+use Rattle.std.proofs.Common.{◌≡◌, ℕ, Bool, true, false, List, [], ◌∷◌, ◌++◌, refl, ap, sym, ◌⊎◌, inl, inr}
+use Rattle.std.proofs.lemmas.Bool.{false≢true}
 use Rattle.lex_core.specs.Token.{Token}
 use Rattle.lex_core.specs.declared.place.Place.{Place}
 use Rattle.lex_core.specs.declared.token.Tok.{Tok}
 use Rattle.sexp_core.specs.Sexp.{Sexp}
 use Rattle.judgement.specs.Judging.{Outcome, Lawful, well_sorted, ill_sorted}
 use Rattle.judgement.proofs.JudgementLaws.{fault_once, lawful-check, lawful-done, lawful-refuse, lawful-then, never_both, test_decided, value_once, value_or_fault}
-use Rattle.term_grammar.specs.Syntax.{Qualified, unqualified, qualified, Term, constant, qualified_term, application, let_in, for_all, there_exists, match_with, annotated, Terms, no_terms, with_term}
-use Rattle.cmd_grammar.specs.Commands.{Command, assert, declare_const, declare_fun, declare_sort, define_sort, echo, exit, get_info, get_option, pop, push, reset, reset_assertions, set_info, set_logic, set_option}
+use Rattle.term_grammar.specs.Syntax.{Term, constant, qualified_term, application, let_in, for_all, there_exists, match_with, annotated, Terms, no_terms, with_term}
+use Rattle.cmd_grammar.specs.Commands.{Command, Literal, assert, check_sat_assuming, declare_const, declare_fun, declare_sort, define_sort, echo, exit, get_info, get_option, pop, push, reset, reset_assertions, set_info, set_logic, set_option}
 use Rattle.cmd_grammar.specs.Grammar.{IsGrammarFault, ReadsCommand}
 use Rattle.cmd_grammar.proofs.GrammarAgrees.{one_command, one_of_both, not_both}
 use Rattle.cmd_grammar.proofs.GrammarAgrees as grammar
@@ -19,7 +16,7 @@ use Rattle.typer.proofs.SortLaws.{at_most, lawful-sort, lawful-sorts}
 use Rattle.typer.proofs.TermLaws.{lawful-term}
 use Rattle.script_core.specs.Environment.{Environment}
 use Rattle.script_core.specs.Numbering.{numbered_sexp}
-use Rattle.script_core.specs.Rules.{is_bool, is_built, judge_all_built, judge_built, judge_command, judge_form, judge_head, judge_mode, judge_params, judge_parts}
+use Rattle.script_core.specs.Rules.{is_built, judge_all_built, judge_bool, judge_built, judge_command, judge_form, judge_literals, judge_mode, judge_params, judge_parts}
 use Rattle.script_core.specs.Steps.{ListFault, ListSteps, judge_grammar, judge_list, judge_tree, with_names}
 
 lawful-grammar : (t : Sexp Tok) → Lawful (judge_grammar t)
@@ -40,23 +37,11 @@ is_false : (b : Bool) → (b ≡ false) ⊎ ((b ≡ false) → ⊥)
 is_false true = inr (λ e. false≢true (sym e))
 is_false false = inl refl
 
--- a text is another or it is not
-has_text : (o : Option (List ℕ)) (text : List ℕ) → (o ≡ Some text) ⊎ ((o ≡ Some text) → ⊥)
-has_text None text = inr (λ e. cc)
-has_text (Some other) text = elim (cases_Bool (bytes_eq other text)) [
-  | inl same ↦ inl (ap Some ((bytes_eq-Decides other text).0 same))
-  | inr apart ↦ inr (λ e. let k : other ≡ text = cc in false≢true (sym apart ∙ (bytes_eq-Decides other text).1 k))
-]
-
-lawful-head : (at : ℕ) (q : Qualified) → Lawful (judge_head at q)
-lawful-head at (unqualified i) = lawful-done _
-lawful-head at (qualified b i s) = lawful-refuse _ _
-
 mutual
   lawful-built : (t : Term) → Lawful (judge_built t)
   lawful-built (constant c) = lawful-done _
-  lawful-built (qualified_term q) = lawful-head _ q
-  lawful-built (application at q ts) = lawful-then _ _ (lawful-head at q) (λ u. lawful-all_built ts)
+  lawful-built (qualified_term q) = lawful-done _
+  lawful-built (application at q ts) = lawful-all_built ts
   lawful-built (let_in at bs u) = lawful-refuse _ _
   lawful-built (for_all at vs u) = lawful-refuse _ _
   lawful-built (there_exists at vs u) = lawful-refuse _ _
@@ -72,7 +57,7 @@ lawful-form at (assert t) = lawful-built t
 lawful-form at c = lawful-check _ _ _ (test_decided (is_built c))
 
 lawful-mode : (env : Environment) (at : ℕ) (c : Command) → Lawful (judge_mode env at c)
-lawful-mode env at (set_logic n) = lawful-then _ _ (lawful-check _ _ _ (is_false env.logic)) (λ u. lawful-check _ _ _ (has_text (slice_get env.names n.name) (codes "QF_UF")))
+lawful-mode env at (set_logic n) = lawful-then _ _ (lawful-check _ _ _ (is_false env.logic)) (λ u. lawful-check _ _ _ (test_decided _))
 lawful-mode env at (set_option a) = lawful-check _ _ _ (is_false _)
 lawful-mode env at (set_info a) = lawful-done _
 lawful-mode env at (get_option k) = lawful-done _
@@ -88,8 +73,16 @@ lawful-params : (before : List ℕ) (ps : List Tok) → Lawful (judge_params bef
 lawful-params before [] = lawful-done _
 lawful-params before (p ∷ ps) = lawful-then _ _ (lawful-check _ _ _ (is_false _)) (λ u. lawful-params (before ++ p.name ∷ []) ps)
 
+lawful-bool : (env : Environment) (t : Term) → Lawful (judge_bool env t)
+lawful-bool env t = lawful-then _ _ (lawful-term _ _ t) (λ u. lawful-check _ _ _ (test_decided _))
+
+lawful-literals : (env : Environment) (ls : List Literal) → Lawful (judge_literals env ls)
+lawful-literals env [] = lawful-done _
+lawful-literals env (l ∷ ls) = lawful-then _ _ (lawful-bool env _) (λ u. lawful-literals env ls)
+
 lawful-parts : (env : Environment) (c : Command) → Lawful (judge_parts env c)
-lawful-parts env (assert t) = lawful-then _ _ (lawful-term _ _ _ t) (λ s. lawful-then _ _ (lawful-check _ _ _ (test_decided (is_bool s))) (λ u. lawful-done _))
+lawful-parts env (assert t) = lawful-then _ _ (lawful-bool env t) (λ u. lawful-done _)
+lawful-parts env (check_sat_assuming ls) = lawful-then _ _ (lawful-literals env ls) (λ u. lawful-done _)
 lawful-parts env (declare_const n s) =
     lawful-then _ _ (lawful-check _ _ _ (is_false _)) (λ u. lawful-then _ _ (lawful-sort _ _ _ _ s) (λ result. lawful-done _))
 lawful-parts env (declare_fun n ss s) =

@@ -1,8 +1,7 @@
 -- What the rules answer as functions is what the relation of the rules says.
-use Rattle.std.proofs.Common.{◌≡◌, ℕ, ◌+◌, ◌≤◌, nat_le, Bool, true, false, not, ◌&&◌, ◌==◌, ◌<◌, List, [], ◌∷◌, ◌++◌, length, Option, Some, None, Result, Ok, Err, IsTrue, refl, ap, sym, ◌∙◌, subst, inl, inr, codes}
-use Rattle.std.specs.Prelude.{slice_get}
+use Rattle.std.proofs.Common.{◌≡◌, ℕ, ◌+◌, ◌≤◌, nat_le, Bool, true, false, not, ◌&&◌, ◌==◌, ◌<◌, List, [], ◌∷◌, ◌++◌, length, Result, Ok, Err, IsTrue, refl, sym, ◌∙◌, subst, inl, inr}
+use Rattle.std.specs.Option.{is_some}
 use Rattle.std.proofs.lemmas.Bool.{false≢true, le-leb, leb-true}
-use Rattle.std.proofs.lemmas.Slice.Eq.{bytes_eq-Decides}
 use Rattle.lex_core.specs.declared.place.Place.{Place}
 use Rattle.lex_core.specs.declared.token.Tok.{Tok}
 use Rattle.sig_table.specs.declared.code.Code.{Code}
@@ -11,7 +10,7 @@ use Rattle.sexp_core.specs.Sexp.{FlatToken, Opening, Closing, Word, Sexp, atom, 
 use Rattle.judgement.specs.Judging.{Judging, Outcome, ◌>>=◌, check, ill_sorted, well_sorted}
 use Rattle.term_grammar.specs.declared.words.TheConstants.{GLOBAL_DECLARATIONS}
 use Rattle.term_grammar.specs.Reads.{byte_of}
-use Rattle.term_grammar.specs.Syntax.{Qualified, unqualified, qualified, qualified_at, Term, constant, qualified_term, application, let_in, for_all, there_exists, match_with, annotated, Terms, no_terms, with_term}
+use Rattle.term_grammar.specs.Syntax.{Term, constant, qualified_term, application, let_in, for_all, there_exists, match_with, annotated, Terms, no_terms, with_term}
 use Rattle.cmd_grammar.specs.Commands.{Command, assert, declare_const, declare_fun, declare_sort, define_sort, echo, exit, get_info, get_option, pop, push, reset, set_info, set_logic, set_option}
 use Rattle.cmd_grammar.specs.CommandReads.{read_command}
 use Rattle.cmd_grammar.specs.Grammar.{ReadsCommand}
@@ -25,11 +24,11 @@ use Rattle.script_core.specs.declared.refusal.Progress.TheVariants as progress
 use Rattle.script_core.specs.declared.scope.StepError.{StepError}
 use Rattle.script_core.specs.declared.scope.StepError.TheVariants as error
 use Rattle.script_core.specs.Checking.{AnswersTree, TakesTree}
-use Rattle.script_core.specs.Effects.{AnswersParts, IsDeclaredNamed}
-use Rattle.script_core.specs.Environment.{Environment, HasText}
+use Rattle.script_core.specs.Effects.{AnswersParts, IsDeclaredNamed, IsInMode}
+use Rattle.script_core.specs.Environment.{Environment, logic_theories, text_of}
 use Rattle.script_core.specs.Interned.{AreInterned}
-use Rattle.script_core.specs.RuleAnswers.{Answer, answer_all_built, answer_built, answer_form, answer_head, answer_mode, both, has_this_text, is_text, test}
-use Rattle.script_core.specs.Rules.{attribute_key, is_built, judge_all_built, judge_built, judge_command, judge_form, judge_head, judge_mode, judge_parts, value_of}
+use Rattle.script_core.specs.RuleAnswers.{Answer, answer_all_built, answer_built, answer_form, answer_mode, both, test}
+use Rattle.script_core.specs.Rules.{attribute_key, is_built, judge_all_built, judge_built, judge_command, judge_form, judge_mode, judge_parts, value_of}
 use Rattle.script_core.specs.SessionState.{progress_of}
 use Rattle.script_core.specs.Steps.{is_exit, judge_tree}
 
@@ -58,27 +57,11 @@ not_met false rule at = (refl, refl)
 most_met : (m n : ℕ) (rule : Code) (at : ℕ) → IsMet (check (m ≤ n) rule at) (test (nat_le m n) rule at)
 most_met m n rule at = test_met (m ≤ n) (nat_le m n) rule at (leb-true m n) (λ e h. false≢true (sym e ∙ le-leb m n h))
 
-is_this_text : (o : Option (List ℕ)) (text : List ℕ) → is_text o text ≡ true → o ≡ Some text
-is_this_text None text e = absurd (false≢true e)
-is_this_text (Some other) text e = ap Some ((bytes_eq-Decides other text).0 e)
-
-is_other_text : (o : Option (List ℕ)) (text : List ℕ) → is_text o text ≡ false → o ≡ Some text → ⊥
-is_other_text None text e h = cc
-is_other_text (Some other) text e h = let k : other ≡ text = cc in false≢true (sym e ∙ (bytes_eq-Decides other text).1 k)
-
-text_met : (env : Environment) (token : Tok) (text : List ℕ) (rule : Code) (at : ℕ) → IsMet (check (HasText env token text) rule at) (test (has_this_text env token text) rule at)
-text_met env token text rule at =
-    test_met (HasText env token text) (has_this_text env token text) rule at (is_this_text (slice_get env.names token.name) text) (is_other_text (slice_get env.names token.name) text)
-
-head_met : (at : ℕ) (q : Qualified) → IsMet (judge_head at q) (answer_head at q)
-head_met at (unqualified i) = (refl, refl)
-head_met at (qualified b i s) = refl
-
 mutual
   built_met : (t : Term) → IsMet (judge_built t) (answer_built t)
   built_met (constant c) = (refl, refl)
-  built_met (qualified_term q) = head_met (qualified_at q) q
-  built_met (application at q ts) = then_met (judge_head at q) (judge_all_built ts) (answer_head at q) (answer_all_built ts) (head_met at q) (all_built_met ts)
+  built_met (qualified_term q) = (refl, refl)
+  built_met (application at q ts) = all_built_met ts
   built_met (let_in at bs u) = refl
   built_met (for_all at vs u) = refl
   built_met (there_exists at vs u) = refl
@@ -95,9 +78,9 @@ form_met at c = is_met (is_built c) code.WrongCommandForm at
 
 mode_met : (env : Environment) (at : ℕ) (c : Command) → IsMet (judge_mode env at c) (answer_mode env at c)
 mode_met env at (set_logic n) =
-    then_met (check (env.logic ≡ false) code.LogicAlreadySet at) (check (HasText env n (codes "QF_UF")) code.UnknownLogic at)
-    (test (not env.logic) code.LogicAlreadySet at) (test (has_this_text env n (codes "QF_UF")) code.UnknownLogic at)
-    (not_met env.logic code.LogicAlreadySet at) (text_met env n (codes "QF_UF") code.UnknownLogic at)
+    let known = is_some (logic_theories (text_of env n)) in
+    then_met (check (env.logic ≡ false) code.LogicAlreadySet at) (check (IsTrue known) code.UnknownLogic at)
+    (test (not env.logic) code.LogicAlreadySet at) (test known code.UnknownLogic at) (not_met env.logic code.LogicAlreadySet at) (is_met known code.UnknownLogic at)
 mode_met env at (set_option a) = not_met (((attribute_key a).name == GLOBAL_DECLARATIONS) && env.logic) code.GlobalOptionTooLate at
 mode_met env at (set_info a) = (refl, refl)
 mode_met env at (get_option k) = (refl, refl)
@@ -114,6 +97,39 @@ mode_met env at (pop n) =
     (test env.logic code.LogicNotSet at) (test (nat_le (value_of env n) (depth env.declarations)) code.TooFewLevels at)
     (is_met env.logic code.LogicNotSet at) (most_met (value_of env n) (depth env.declarations) code.TooFewLevels at)
 mode_met env at c = is_met env.logic code.LogicNotSet at
+
+-- a logic is set, or none, where the mode is right
+first_right : (r s : Answer) → both r s ≡ Ok tt → r ≡ Ok tt
+first_right (Ok u) s e = refl
+first_right (Err place) s e = cc
+
+second_right : (r s : Answer) → both r s ≡ Ok tt → s ≡ Ok tt
+second_right (Ok u) s e = e
+second_right (Err place) s e = cc
+
+test_right : (b : Bool) (rule : Code) (at : ℕ) → test b rule at ≡ Ok tt → IsTrue b
+test_right true rule at e = refl
+test_right false rule at e = cc
+
+unset_right : (b : Bool) (rule : Code) (at : ℕ) → test (not b) rule at ≡ Ok tt → b ≡ false
+unset_right true rule at e = cc
+unset_right false rule at e = refl
+
+in_mode : (env : Environment) (at : ℕ) (c : Command) → answer_mode env at c ≡ Ok tt → IsInMode env.logic c
+in_mode env at (set_logic n) e = unset_right env.logic code.LogicAlreadySet at (first_right _ _ e)
+in_mode env at (set_option a) e = tt
+in_mode env at (set_info a) e = tt
+in_mode env at (get_option k) e = tt
+in_mode env at (get_info k) e = tt
+in_mode env at (echo t) e = tt
+in_mode env at reset e = tt
+in_mode env at exit e = tt
+in_mode env at (push n) e = test_right env.logic code.LogicNotSet at (first_right _ _ e)
+in_mode env at (pop n) e = test_right env.logic code.LogicNotSet at (first_right _ _ e)
+in_mode env at c e = test_right env.logic code.LogicNotSet at e
+
+pub command_in_mode : (env : Environment) (at : ℕ) (c : Command) → both (answer_form at c) (answer_mode env at c) ≡ Ok tt → IsInMode env.logic c
+command_in_mode env at c e = in_mode env at c (second_right (answer_form at c) (answer_mode env at c) e)
 
 -- the tree is read as no command
 pub tree_no_command : (env : Environment) (t : Sexp Tok) (e : GrError) (p : Place) → e ≡ grammar.Fault p → ReadAnswers t (Err e) → judge_tree env t [] (ill_sorted p)

@@ -1,92 +1,38 @@
 -- What the parts of a command lead to, from what the calls answer.
-use Rattle.std.proofs.Common.{◌≡◌, ℕ, ◌+◌, ◌<◌, ◌==◌, ◌||◌, Bool, true, false, List, [], ◌∷◌, ◌++◌, map, length, Option, Some, None, Result, Ok, Err, refl, ap, sym, ◌∙◌, subst, inl, inr, arith, append_assoc, slice_index_or, if◌then◌else◌}
+use Rattle.std.proofs.Common.{◌≡◌, ℕ, ◌+◌, ◌==◌, Bool, true, false, List, [], ◌∷◌, ◌++◌, map, length, Option, Some, None, Result, Ok, Err, refl, ap, sym, ◌∙◌, subst, inl, inr, arith, append_assoc, slice_index_or, if◌then◌else◌}
 use Rattle.std.specs.Prelude.{IfErr, OnOk}
 use Rattle.std.specs.List.{All, list_any}
 use Rattle.std.proofs.lemmas.List.{length-map}
 use Rattle.std.proofs.lemmas.Bool.{eqb-true, false≢true}
 use Rattle.lex_core.specs.declared.token.Tok.{Tok}
 use Rattle.sig_table.specs.declared.code.Code.TheVariants as code
-use Rattle.sig_table.specs.declared.theories.Theories.{Theories}
 use Rattle.sexp_core.specs.Sexp.{Sexp}
-use Rattle.judgement.specs.Judging.{Judging, Outcome, ◌>>=◌, done, ill_sorted, well_sorted}
+use Rattle.judgement.specs.Judging.{Outcome, ill_sorted, well_sorted}
 use Rattle.sort_store.specs.Tree.{NumberedSort, tree}
 use Rattle.scope_stack.specs.declared.entry.FunEntry.{FunEntry}
 use Rattle.scope_stack.specs.declared.entry.SortEntry.{SortEntry}
 use Rattle.scope_stack.specs.Environment.{Environment as Scopes}
 use Rattle.scope_stack.specs.Environment as scopes
-use Rattle.typer.specs.Answers as typer
 use Rattle.typer.specs.Declarations.{Declarations, declarations_of, fun_declaration, sort_declaration, with_fun, with_global, with_popped, with_pushed, with_sort}
 use Rattle.typer.specs.FunctionSymbols.{is_fun_in_use, is_sort_in_use}
 use Rattle.typer.proofs.ReadyKept.{schema_grown}
-use Rattle.typer.specs.Ready.{IsReady, IsReadySchema, IsReadyFunEntry, IsReadySortEntry}
-use Rattle.typer.specs.SortSymbols.{is_theory_sort}
-use Rattle.typer.specs.declared.error.TyError.{TyError}
-use Rattle.typer.specs.declared.error.TyError.TheVariants as ty
-use Rattle.typer.specs.declared.world.World.{World}
+use Rattle.typer.specs.Ready.{IsReadySchema}
 use Rattle.typer.proofs.DeclarationsByTrees.{fun_by_trees, popped_by_trees, pushed_by_trees, sort_by_trees}
-use Rattle.typer.proofs.ReadyCalls.{ready_declared, ready_with_fun, ready_with_popped, ready_with_pushed, ready_without_assertions}
 use Rattle.term_grammar.specs.AttributeViews.{attribute_kind}
 use Rattle.term_grammar.specs.IdentifierViews.{SplitsTokens}
-use Rattle.cmd_grammar.specs.Commands.{declare_fun, define_sort}
+use Rattle.cmd_grammar.specs.Commands.{declare_const, declare_fun, define_sort}
 use Rattle.term_grammar.specs.Syntax.{Sort, Sorts, Attribute, keyword_attribute, valued_attribute}
 use Rattle.term_grammar.specs.declared.attribute.RawAttributeKind.TheVariants as kind
 use Rattle.term_grammar.specs.declared.words.TheConstants.{GLOBAL_DECLARATIONS}
 use Rattle.script_core.specs.declared.scope.Scope.{Scope}
 use Rattle.script_core.specs.declared.scope.StepError.{StepError}
 use Rattle.script_core.specs.declared.scope.StepError.TheVariants as error
-use Rattle.script_core.specs.Checking.{IsReadyCore, environment_of}
-use Rattle.script_core.specs.Effects.{Answers, AnswersParts, AnswersSort, AnswersSorts, OnlySortsGrow, step_error_of}
-use Rattle.script_core.specs.Environment.{Environment, core_alone}
+use Rattle.script_core.specs.Checking.{environment_of}
+use Rattle.script_core.specs.Effects.{AnswersParts, AnswersSort, AnswersSorts, OnlySortsGrow}
+use Rattle.script_core.specs.Environment.{Environment, signature_in}
 use Rattle.script_core.specs.RuleAnswers.{tokens_left}
 use Rattle.script_core.specs.Rules.{after_option, is_true, judge_params, with_defined_sort, with_function}
-
--- a part that is met, and what comes after it
-pub then_ok : {A B C : Type 0} (J : Judging A) (K : A → Judging B) (g : C → B) (x : A) (r : Result C StepError) → J [] (well_sorted x []) → Answers (K x) g r → Answers (J >>= K) g r
-then_ok J K g x (Ok y) j k = (x, [], j, k)
-then_ok J K g x (Err (error.Broken p)) j k = inr (x, [], j, k)
-then_ok J K g x (Err error.NoMemory) j k = tt
-
-pub then_err : {A B C D : Type 0} (J : Judging A) (K : A → Judging B) (f : C → A) (g : D → B) (e : StepError) → Answers J f (Err e) → Answers (J >>= K) g (Err e)
-then_err J K f g (error.Broken p) j = inl j
-then_err J K f g error.NoMemory j = tt
-
--- the value, with no further part
-pub value_of_done : {B C : Type 0} (g : C → B) (x : B) (r : Result C StepError) → ((y : C) → r ≡ Ok y → g y ≡ x) → ((e : StepError) → r ≡ Err e → e ≡ error.NoMemory) → Answers (done x) g r
-value_of_done g x (Ok y) h k = (h y refl, refl)
-value_of_done g x (Err (error.Broken p)) h k = let e = k (error.Broken p) refl in cc
-value_of_done g x (Err error.NoMemory) h k = tt
-
--- what the typer answers under Core alone
-pub told_ok : {B : Type 0} (J : Theories → Judging B) (theories : Theories) (x : B) → theories ≡ core_alone → ((before : List ℕ) → J theories before (well_sorted x before)) → J core_alone [] (well_sorted x [])
-told_ok J theories x core h = subst (λ (t : Theories). J t [] (well_sorted x [])) core (h [])
-
-pub told_err : {B C : Type 0} (J : Theories → Judging B) (f : C → B) (theories : Theories) (e : TyError) (s : StepError) → theories ≡ core_alone → typer.Answers (Err e) (J theories) → s ≡ step_error_of e → Answers (J core_alone) f (Err s)
-told_err J f theories (ty.Fault place) s core h same = rw same (subst (λ (t : Theories). J t [] (ill_sorted place)) core (h []))
-told_err J f theories ty.NoMemory s core h same = rw same tt
-
--- the world with other scopes
-abbrev pub with_scopes : Scopes → Scope → Scope
-with_scopes s scope = record scope { world = record scope.world { scopes = s } }
-
-pub fun_stands : (world : World) (s : Scopes) (name : ℕ) (d : FunEntry) → IsReadyCore world → s ≡ scopes.with_fun name d world.scopes → name < length world.names → IsReadyFunEntry world.names world.sorts d
-    → IsReadyCore (record world { scopes = s })
-fun_stands world s name d h e named entry = record {
-  ready = subst (λ (x : Scopes). IsReady (record world { scopes = x })) (sym e) (ready_with_fun world h.ready name d (record { name = named; entry = entry }));
-  core = h.core;
-}
-
-pub sort_stands : (world : World) (s : Scopes) (name : ℕ) (d : SortEntry) → IsReadyCore world → s ≡ scopes.with_sort name d world.scopes → name < length world.names
-    → is_theory_sort world.names world.theories name ≡ false → IsReadySortEntry world.names world.sorts d → IsReadyCore (record world { scopes = s })
-sort_stands world s name d h e named free entry = record { ready = ready_declared world s name d e h.ready named free entry; core = h.core }
-
-pub pushed_stands : (world : World) (s : Scopes) (n : ℕ) → IsReadyCore world → s ≡ scopes.with_pushed n world.scopes → IsReadyCore (record world { scopes = s })
-pushed_stands world s n h e = record { ready = subst (λ (x : Scopes). IsReady (record world { scopes = x })) (sym e) (ready_with_pushed world h.ready n); core = h.core }
-
-pub popped_stands : (world : World) (s : Scopes) (n : ℕ) → IsReadyCore world → s ≡ scopes.with_popped n world.scopes → IsReadyCore (record world { scopes = s })
-popped_stands world s n h e = record { ready = subst (λ (x : Scopes). IsReady (record world { scopes = x })) (sym e) (ready_with_popped world h.ready n); core = h.core }
-
-pub forgotten_stands : (world : World) (s : Scopes) → IsReadyCore world → s ≡ scopes.without_assertions world.scopes → IsReadyCore (record world { scopes = s })
-forgotten_stands world s h e = record { ready = subst (λ (x : Scopes). IsReady (record world { scopes = x })) (sym e) (ready_without_assertions world h.ready); core = h.core }
+use Rattle.script_core.proofs.ReadyScopes.{with_scopes}
 
 -- the environment where declarations have changed
 pub declared_env : (names : List (List ℕ)) (old : Scope) (s : Scopes) (next : ℕ) (d : Declarations) → declarations_of s ≡ d
@@ -110,9 +56,6 @@ pub levels_popped : (n : ℕ) (old s : Scopes) → s ≡ scopes.with_popped n ol
 levels_popped n old s e = ap declarations_of e ∙ popped_by_trees n old
 
 -- nothing but sorts is new
-pub same_env : (names : List (List ℕ)) (old new : Scope) → OnlySortsGrow old new → environment_of names new ≡ environment_of names old
-same_env names old new g = ap (environment_of names) g.others
-
 pub same_names : (old new : Scope) → OnlySortsGrow old new → new.world.names ≡ old.world.names
 same_names old new g = ap (λ (s : Scope). s.world.names) g.others
 
@@ -148,11 +91,6 @@ option_other env a k v e other =
 pub option_alone : (env : Environment) (a : Attribute) (k : Tok) → attribute_kind a ≡ kind.Keyword k → env ≡ after_option env a
 option_alone env (keyword_attribute j) k e = refl
 option_alone env (valued_attribute j u) k e = cc
-
--- a name that is in use neither in Core nor in the scopes
-pub first_false : (a b : Bool) → (a || b) ≡ false → a ≡ false
-first_false true b e = e
-first_false false b e = refl
 
 -- the parameters that are left, after some that are not repeated
 pub param_step : (ids : List ℕ) (p : Tok) (ps : List Tok) → list_any (λ n. n == p.name) ids ≡ false → (o : Outcome (Unit {0})) → judge_params (ids ++ p.name ∷ []) ps [] o → judge_params ids (p ∷ ps) [] o
@@ -196,9 +134,32 @@ pub schemas_later : (old new : Scope) (rs : List NumberedSort) → OnlySortsGrow
 schemas_later old new rs g h =
     λ k d l. subst (λ (ns : List (List ℕ)). IsReadySchema ns new.world.sorts 0 (slice_index_or rs k d)) (sym (same_names old new g)) (schema_grown old.world.names old.world.sorts new.world.sorts g.grows 0 _ (h k d l))
 
+-- the declaration of a constant, once its sort is made
+pub const_answer : (old near new : Scope) (n : Tok) (s : Sort) (args : List NumberedSort) (sort : NumberedSort) (r : Result (Unit {0}) StepError)
+    → is_fun_in_use (signature_in (environment_of old.world.names old)) n.name ≡ false → AnswersSort (environment_of old.world.names old) [] s (Ok sort) → OnlySortsGrow old near → args ≡ []
+    → OnOk r (environment_of near.world.names new ≡ with_function (environment_of near.world.names near) n.name (map tree args) (tree sort))
+    → IfErr r (λ e. e ≡ error.NoMemory) → AnswersParts (environment_of old.world.names old) (declare_const n s) r (environment_of old.world.names new)
+const_answer old near new n s args sort (Err error.NoMemory) fresh sorted more none effect only = tt
+const_answer old near new n s args sort (Err (error.Broken p)) fresh sorted more none effect only = cc
+const_answer old near new n s args sort (Ok u) fresh sorted more none effect only = (
+  tt,
+  [],
+  (fresh, refl),
+  (
+    tree sort,
+    [],
+    sorted,
+    (
+      ap (λ (ns : List (List ℕ)). environment_of ns new) (sym (same_names old near more)) ∙ (effect
+          ∙ (ap (λ (e : Environment). with_function e n.name (map tree args) (tree sort)) (here_env old near more) ∙ ap (λ (rs : List NumberedSort). with_function (environment_of old.world.names old) n.name (map tree rs) (tree sort)) none)),
+      refl,
+    ),
+  ),
+)
+
 -- the declaration of a function, once its sorts are made
 pub fun_answer : (old mid near new : Scope) (n : Tok) (ss : Sorts) (s : Sort) (args : List NumberedSort) (sort : NumberedSort) (r : Result (Unit {0}) StepError)
-    → is_fun_in_use (declarations_of old.world.scopes) n.name ≡ false → AnswersSorts (environment_of old.world.names old) ss (Ok args) → OnlySortsGrow old mid
+    → is_fun_in_use (signature_in (environment_of old.world.names old)) n.name ≡ false → AnswersSorts (environment_of old.world.names old) ss (Ok args) → OnlySortsGrow old mid
     → AnswersSort (environment_of mid.world.names mid) [] s (Ok sort) → OnlySortsGrow mid near
     → OnOk r (environment_of near.world.names new ≡ with_function (environment_of near.world.names near) n.name (map tree args) (tree sort))
     → IfErr r (λ e. e ≡ error.NoMemory) → AnswersParts (environment_of old.world.names old) (declare_fun n ss s) r (environment_of old.world.names new)
@@ -225,7 +186,7 @@ fun_answer old mid near new n ss s args sort (Ok u) fresh given grown sorted mor
 
 -- the definition of a sort, once its body is made
 pub sort_answer : (old near new : Scope) (n : Tok) (ps : List Tok) (s : Sort) (ids : List ℕ) (sort : NumberedSort) (count : ℕ) (r : Result (Unit {0}) StepError)
-    → is_sort_in_use old.world.names (declarations_of old.world.scopes) core_alone n.name ≡ false → judge_params [] ps [] (well_sorted tt []) → ids ≡ map (λ q. q.name) ps
+    → is_sort_in_use (signature_in (environment_of old.world.names old)) n.name ≡ false → judge_params [] ps [] (well_sorted tt []) → ids ≡ map (λ q. q.name) ps
     → AnswersSort (environment_of old.world.names old) ids s (Ok sort) → OnlySortsGrow old near → count ≡ length ids
     → OnOk r (environment_of near.world.names new ≡ with_defined_sort (environment_of near.world.names near) n.name count (tree sort))
     → IfErr r (λ e. e ≡ error.NoMemory) → AnswersParts (environment_of old.world.names old) (define_sort n ps s) r (environment_of old.world.names new)

@@ -23,7 +23,7 @@ use Rattle.script_core.specs.declared.refusal.Progress.TheVariants as progress
 use Rattle.script_core.specs.declared.refusal.Refusal.{Refusal}
 use Rattle.script_core.specs.declared.refusal.Stop.{Stop}
 use Rattle.script_core.specs.declared.refusal.Stop.TheVariants.{Refused, NoMemory}
-use Rattle.script_core.specs.Checking.{Awaits, BreaksAmong, BreaksTree, BreaksWith, BreaksWithin, Exits, ExitsWithin, HasTokensOf, IfEnded, IfMore, IfRefused, IsReadyCore, TakesTokens, TakesTree, TokenBreaks, environment_of}
+use Rattle.script_core.specs.Checking.{Awaits, BreaksAmong, BreaksTree, BreaksWith, BreaksWithin, Exits, ExitsWithin, HasTokensOf, IfEnded, IfMore, IfRefused, IsReadyScope, TakesTokens, TakesTree, TokenBreaks, environment_of}
 use Rattle.script_core.specs.Interned.{AreInterned}
 use Rattle.script_core.specs.Numbering.{table_after}
 use Rattle.script_core.proofs.FollowingTokens.{breaks_command, breaks_lists, exits_list, follows_inside, follows_list, interned_last}
@@ -52,7 +52,7 @@ taken_inside tokens c tok new o w named e unfinished inside faulty =
 pub taken_list : (c n : Checker) (tok : Tok) (o : Option (Sexp Tok)) (t : Sexp Tok) (builder : State) (r : Result Progress Stop) → IsNameTable c.scope.world.names → tok.name < length c.scope.world.names
     → o ≡ Some t → (c.builder.1 ≡ None → IfSome o (IsTaken c tok))
     → (c.builder.1 ≡ None → IfSome o (λ x. builder ≡ ([], None))) → n.builder ≡ builder → n.scope.world.names ≡ c.scope.world.names
-    → IfOk r (λ p. TakesTree (environment_of c.scope.world.names c.scope) t p (environment_of c.scope.world.names n.scope)) → OnOk r (n.count ≡ c.count + 1) → OnOk r (IsReadyCore n.scope.world)
+    → IfOk r (λ p. TakesTree (environment_of c.scope.world.names c.scope) t p (environment_of c.scope.world.names n.scope)) → OnOk r (n.count ≡ c.count + 1) → OnOk r (IsReadyScope n.scope)
     → IfMore r (TakesTokens c (token_of c.scope.world.names tok ∷ []) (token_of c.scope.world.names tok ∷ []) n)
 taken_list c n tok o t builder (Err stop) table named e tree emptied same names steps counted stands = tt
 taken_list c n tok o t builder (Ok progress.Ended) table named e tree emptied same names steps counted stands = tt

@@ -10,8 +10,9 @@ use Rattle.sexp_core.specs.Tokens.{flat_token, flat_tokens}
 use Rattle.cmd_grammar.specs.Commands.{Command}
 use Rattle.judgement.specs.Judging.{ill_sorted, well_sorted}
 use Rattle.typer.specs.Declarations.{declarations_of}
+use Rattle.scope_stack.specs.Environment.{Environment as Scopes}
+use Rattle.scope_stack.specs.Levels.{live}
 use Rattle.typer.specs.Ready.{IsReady}
-use Rattle.typer.specs.declared.world.World.{World}
 use Rattle.script_core.specs.declared.checker.Checker.{Checker}
 use Rattle.script_core.specs.declared.refusal.Progress.{Progress}
 use Rattle.script_core.specs.declared.refusal.Progress.TheVariants as progress
@@ -22,7 +23,7 @@ use Rattle.script_core.specs.declared.scope.Scope.{Scope}
 use Rattle.script_core.specs.declared.scope.StepError.{StepError}
 use Rattle.script_core.specs.declared.scope.StepError.TheVariants as error
 use Rattle.script_core.specs.Acceptance.{Refuses, Sofar, place_of}
-use Rattle.script_core.specs.Environment.{Environment, core_alone, start}
+use Rattle.script_core.specs.Environment.{Environment, start}
 use Rattle.script_core.specs.Interned.{AreInterned}
 use Rattle.script_core.specs.Numbering.{table_after}
 use Rattle.script_core.specs.Steps.{all_taken, exited, ListFault, Run, Runs, is_exit, judge_tree}
@@ -33,12 +34,19 @@ texts_of texts tokens = map (map_flat (token_of texts)) tokens
 
 -- what a scope keeps of an environment
 abbrev pub environment_of : List (List ℕ) → Scope → Environment
-environment_of names scope = record { names = names; logic = scope.logic; declarations = declarations_of scope.world.scopes; next = scope.next }
+environment_of names scope =
+    record { names = names; logic = scope.logic; theories = scope.world.theories; declarations = declarations_of scope.world.scopes; next = scope.next }
 
--- the world meets what the rules of sorts ask of it, and Core is its only theory
-pub record IsReadyCore (world : World) : Type 0 where
-  pub ready : IsReady world
-  pub core : world.theories ≡ core_alone
+-- no declaration is live
+pub record HasNone (scopes : Scopes) : Type 0 where
+  pub funs : live scopes.funs ≡ []
+  pub sorts : live scopes.sorts ≡ []
+
+-- The world meets what the rules of sorts and terms ask of it. Where no logic is set, nothing is declared, so that a logic may
+-- bring names of its theories.
+pub record IsReadyScope (scope : Scope) : Type 0 where
+  pub ready : IsReady scope.world
+  pub undeclared : scope.logic ≡ false → HasNone scope.world.scopes
 
 -- The checker has taken these tokens, whose names are in the table `known`: their complete lists are accepted, and it keeps the
 -- tokens of the unfinished one. Its own table may have the name of the next token besides.
@@ -53,8 +61,7 @@ pub record Follows (known : List (List ℕ)) (tokens : List Token) (checker : Ch
   pub counted : checker.count ≡ length commands
   pub interned : AreInterned checker.scope.world.names checker.builder.0
   pub table : known ≡ table_after names (texts_of checker.scope.world.names checker.builder.0)
-  pub ready : IsReady checker.scope.world
-  pub core : checker.scope.world.theories ≡ core_alone
+  pub stands : IsReadyScope checker.scope
 
 -- the checker has taken these tokens, and its table has their names alone
 abbrev pub HasTokensOf : List Token → Checker → Type 0

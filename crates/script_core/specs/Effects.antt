@@ -1,18 +1,20 @@
 -- What the parts of a command answer, and what they lead to.
-use Rattle.std.specs.Prelude.{◌≡◌, ℕ, ◌<◌, List, [], length, map, Result, Ok, Err}
+use Rattle.std.specs.Prelude.{◌≡◌, ℕ, ◌<◌, Bool, false, IsTrue, List, [], length, map, Result, Ok, Err}
 use Rattle.judgement.specs.Judging.{Judging, ill_sorted, well_sorted}
 use Rattle.sort_store.specs.Interned.{Grows}
 use Rattle.sort_store.specs.Tree.{NumberedSort, tree}
 use Rattle.term_grammar.specs.Syntax.{Sort, Sorts, Term}
-use Rattle.cmd_grammar.specs.Commands.{Command, declare_const, declare_fun, declare_sort, define_sort}
+use Rattle.cmd_grammar.specs.Commands.{Command, declare_const, declare_fun, declare_sort, define_sort, echo, exit, get_info, get_option, reset, set_info, set_logic, set_option}
 use Rattle.typer.specs.SortRules.{judge_sort, judge_sorts}
 use Rattle.typer.specs.TermRules.{judge_term}
+use Rattle.term_store.specs.Term.{NumberedTerm, tree as term_tree}
 use Rattle.typer.specs.declared.error.TyError.{TyError}
 use Rattle.typer.specs.declared.error.TyError.TheVariants as ty
+use Rattle.script_core.specs.Checking.{environment_of}
 use Rattle.script_core.specs.declared.scope.Scope.{Scope}
 use Rattle.script_core.specs.declared.scope.StepError.{StepError}
 use Rattle.script_core.specs.declared.scope.StepError.TheVariants as error
-use Rattle.script_core.specs.Environment.{Environment, core_alone}
+use Rattle.script_core.specs.Environment.{Environment, signature_in}
 use Rattle.script_core.specs.Rules.{judge_parts}
 
 -- Ok has what the judgement leads to, a broken rule is its fault, and want of memory says nothing. No name is declared by an
@@ -26,15 +28,15 @@ Answers J value (Err error.NoMemory) = Unit {0}
 abbrev pub AnswersParts : Environment → Command → Result (Unit {0}) StepError → Environment → Type 0
 AnswersParts old command result new = Answers (judge_parts old command) (λ _. new) result
 
--- the sort of a raw sort under the parameters of the command, of some raw sorts, and of a term
+-- the sort of a raw sort under the parameters of the command, the sorts of some raw sorts, and the typed term of a term
 abbrev pub AnswersSort : Environment → List ℕ → Sort → Result NumberedSort StepError → Type 0
-AnswersSort env params s result = Answers (judge_sort env.names env.declarations core_alone params s) tree result
+AnswersSort env params s result = Answers (judge_sort env.names env.declarations env.theories params s) tree result
 
 abbrev pub AnswersSorts : Environment → Sorts → Result (List NumberedSort) StepError → Type 0
-AnswersSorts env ss result = Answers (judge_sorts env.names env.declarations core_alone [] ss) (λ rs. map tree rs) result
+AnswersSorts env ss result = Answers (judge_sorts env.names env.declarations env.theories [] ss) (λ rs. map tree rs) result
 
-abbrev pub AnswersTerm : Environment → Term → Result NumberedSort StepError → Type 0
-AnswersTerm env t result = Answers (judge_term env.names env.declarations core_alone t) tree result
+abbrev pub AnswersTerm : Environment → Term → Result NumberedTerm StepError → Type 0
+AnswersTerm env t result = Answers (judge_term (signature_in env) [] t) term_tree result
 
 -- why a command is not accepted whose sort or term has no sort
 abbrev pub step_error_of : TyError → StepError
@@ -46,6 +48,10 @@ pub record OnlySortsGrow (old new : Scope) : Type 0 where
   pub others : new ≡ record old { world = record old.world { sorts = new.world.sorts } }
   pub grows : Grows old.world.sorts new.world.sorts
 
+-- nothing has changed that the rules look at
+abbrev pub IsSameTo : Scope → Scope → Type 0
+IsSameTo old new = environment_of new.world.names new ≡ environment_of old.world.names old
+
 -- the name that the command declares is in the table
 abbrev pub IsDeclaredNamed : List (List ℕ) → Command → Type 0
 IsDeclaredNamed texts (declare_const n s) = n.name < length texts
@@ -53,3 +59,15 @@ IsDeclaredNamed texts (declare_fun n ss s) = n.name < length texts
 IsDeclaredNamed texts (declare_sort n a) = n.name < length texts
 IsDeclaredNamed texts (define_sort n ps s) = n.name < length texts
 IsDeclaredNamed texts command = Unit {0}
+
+-- A logic is set where the command needs one, and none where it sets one.
+abbrev pub IsInMode : Bool → Command → Type 0
+IsInMode logic (set_logic n) = logic ≡ false
+IsInMode logic (set_option a) = Unit {0}
+IsInMode logic (set_info a) = Unit {0}
+IsInMode logic (get_option k) = Unit {0}
+IsInMode logic (get_info k) = Unit {0}
+IsInMode logic (echo t) = Unit {0}
+IsInMode logic reset = Unit {0}
+IsInMode logic exit = Unit {0}
+IsInMode logic command = IsTrue logic

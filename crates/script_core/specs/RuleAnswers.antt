@@ -1,15 +1,15 @@
 -- The rules as functions: `Ok`, or the first fault. The relation of the rules is above them.
-use Rattle.std.specs.Prelude.{ℕ, ◌+◌, Bool, false, not, ◌==◌, ◌&&◌, nat_le, List, [], ◌∷◌, Option, Some, None, Result, Ok, Err, codes, if◌then◌else◌, slice_get}
-use Rattle.std.specs.Str.{bytes_eq}
+use Rattle.std.specs.Prelude.{ℕ, ◌+◌, Bool, not, ◌==◌, ◌&&◌, nat_le, List, [], ◌∷◌, Option, Some, None, Result, Ok, Err, if◌then◌else◌}
+use Rattle.std.specs.Option.{is_some}
 use Rattle.lex_core.specs.declared.place.Place.{Place}
 use Rattle.lex_core.specs.declared.token.Tok.{Tok}
 use Rattle.sig_table.specs.declared.code.Code.{Code}
 use Rattle.sig_table.specs.declared.code.Code.TheVariants as code
 use Rattle.term_grammar.specs.declared.words.TheConstants.{GLOBAL_DECLARATIONS}
-use Rattle.term_grammar.specs.Syntax.{Qualified, unqualified, qualified, qualified_at, Term, constant, qualified_term, application, let_in, for_all, there_exists, match_with, annotated, Terms, no_terms, with_term}
-use Rattle.cmd_grammar.specs.Commands.{Command, assert, echo, exit, get_info, get_option, pop, push, reset, set_info, set_logic, set_option}
+use Rattle.term_grammar.specs.Syntax.{Term, constant, qualified_term, application, let_in, for_all, there_exists, match_with, annotated, Terms, no_terms, with_term}
+use Rattle.cmd_grammar.specs.Commands.{Command, Literal, assert, echo, exit, get_info, get_option, pop, push, reset, set_info, set_logic, set_option}
 use Rattle.typer.specs.Declarations.{depth}
-use Rattle.script_core.specs.Environment.{Environment}
+use Rattle.script_core.specs.Environment.{Environment, logic_theories, text_of}
 use Rattle.script_core.specs.Rules.{attribute_key, is_built, value_of}
 
 abbrev pub Answer : Type 0
@@ -26,23 +26,11 @@ abbrev pub both : Answer → Answer → Answer
 both (Ok u) next = next
 both (Err place) next = Err place
 
--- whether the text of a name is this one
-abbrev pub is_text : Option (List ℕ) → List ℕ → Bool
-is_text None text = false
-is_text (Some other) text = bytes_eq other text
-
-abbrev pub has_this_text : Environment → Tok → List ℕ → Bool
-has_this_text env token text = is_text (slice_get env.names token.name) text
-
-abbrev pub answer_head : ℕ → Qualified → Answer
-answer_head at (unqualified i) = Ok tt
-answer_head at (qualified b i s) = fault code.WrongTermForm at
-
 abbrev mutual
   pub answer_built : Term → Answer
   answer_built (constant c) = Ok tt
-  answer_built (qualified_term q) = answer_head (qualified_at q) q
-  answer_built (application at q ts) = both (answer_head at q) (answer_all_built ts)
+  answer_built (qualified_term q) = Ok tt
+  answer_built (application at q ts) = answer_all_built ts
   answer_built (let_in at bs u) = fault code.WrongTermForm at
   answer_built (for_all at vs u) = fault code.WrongTermForm at
   answer_built (there_exists at vs u) = fault code.WrongTermForm at
@@ -64,7 +52,7 @@ abbrev pub answer_pop : Environment → ℕ → Tok → Answer
 answer_pop env at n = both (test env.logic code.LogicNotSet at) (test (nat_le (value_of env n) (depth env.declarations)) code.TooFewLevels at)
 
 abbrev pub answer_mode : Environment → ℕ → Command → Answer
-answer_mode env at (set_logic n) = both (test (not env.logic) code.LogicAlreadySet at) (test (has_this_text env n (codes "QF_UF")) code.UnknownLogic at)
+answer_mode env at (set_logic n) = both (test (not env.logic) code.LogicAlreadySet at) (test (is_some (logic_theories (text_of env n))) code.UnknownLogic at)
 answer_mode env at (set_option a) = test (not (((attribute_key a).name == GLOBAL_DECLARATIONS) && env.logic)) code.GlobalOptionTooLate at
 answer_mode env at (set_info a) = Ok tt
 answer_mode env at (get_option k) = Ok tt
@@ -80,6 +68,11 @@ answer_mode env at command = test env.logic code.LogicNotSet at
 abbrev pub terms_left : Option (Term × Terms) → Terms
 terms_left None = no_terms
 terms_left (Some p) = with_term p.0 p.1
+
+-- the literals that are left
+abbrev pub literals_left : Option (Literal × List Literal) → List Literal
+literals_left None = []
+literals_left (Some p) = p.0 ∷ p.1
 
 -- the parameters that are left
 abbrev pub tokens_left : Option (Tok × List Tok) → List Tok

@@ -1,7 +1,8 @@
 -- The rules of the commands that are built (SMT-LIB 2.6, sections 3.9 and 4.2): for each command the checks in their order,
 -- and the environment that it leads to.
-use Rattle.std.specs.Prelude.{◌≡◌, ℕ, ◌+◌, ◌<◌, ◌≤◌, ◌^◌, ◌==◌, Bool, true, false, ◌&&◌, List, [], ◌∷◌, ◌++◌, length, map, IsTrue, codes, slice_index_or, if◌then◌else◌}
+use Rattle.std.specs.Prelude.{◌≡◌, ℕ, ◌+◌, ◌<◌, ◌≤◌, ◌^◌, ◌==◌, Bool, true, false, ◌&&◌, List, [], ◌∷◌, ◌++◌, length, map, IsTrue, if◌then◌else◌}
 use Rattle.std.specs.List.{list_any}
+use Rattle.std.specs.Option.{is_some}
 use Rattle.lex_core.specs.declared.token.Tok.{Tok}
 use Rattle.sig_table.specs.declared.code.Code.TheVariants as code
 use Rattle.sexp_core.specs.Sexp.{Sexp, atom, list}
@@ -10,18 +11,19 @@ use Rattle.sort_store.specs.declared.head.Head.TheVariants as head
 use Rattle.sort_store.specs.Tree as tree
 use Rattle.scope_stack.specs.declared.entry.FunKind.TheVariants as kind
 use Rattle.term_grammar.specs.declared.words.TheConstants.{GLOBAL_DECLARATIONS, TRUE}
-use Rattle.term_grammar.specs.Syntax.{Qualified, unqualified, qualified, qualified_at, Attribute, keyword_attribute, valued_attribute, Term, constant, qualified_term, application, let_in, for_all, there_exists, match_with, annotated, Terms, no_terms, with_term, term_at}
-use Rattle.cmd_grammar.specs.Commands.{Command, assert, check_sat_assuming, declare_const, declare_datatype, declare_datatypes, declare_fun, declare_sort, define_fun, define_fun_rec, define_funs_rec, define_sort, echo, exit, get_info, get_option, get_value, pop, push, reset, reset_assertions, set_info, set_logic, set_option}
+use Rattle.term_grammar.specs.Syntax.{Attribute, keyword_attribute, valued_attribute, Term, constant, qualified_term, application, let_in, for_all, there_exists, match_with, annotated, Terms, no_terms, with_term, term_at}
+use Rattle.cmd_grammar.specs.DeclarationViews.{literal_term}
+use Rattle.cmd_grammar.specs.Commands.{Command, Literal, assert, check_sat_assuming, declare_const, declare_datatype, declare_datatypes, declare_fun, declare_sort, define_fun, define_fun_rec, define_funs_rec, define_sort, echo, exit, get_info, get_option, get_value, pop, push, reset, reset_assertions, set_info, set_logic, set_option}
 use Rattle.typer.specs.Numerals.{numeral_value}
 use Rattle.typer.specs.Declarations.{depth, free_sort, defined_sort, with_fun, with_global, with_popped, with_pushed, with_sort, without_assertions}
 use Rattle.typer.specs.SortRules.{judge_sort, judge_sorts}
 use Rattle.typer.specs.TermRules.{judge_term}
 use Rattle.typer.specs.FunctionSymbols.{is_fun_in_use, is_sort_in_use}
-use Rattle.script_core.specs.Environment.{Environment, HasText, core_alone, start}
+use Rattle.term_store.specs.Term.{plain_sort}
+use Rattle.script_core.specs.Environment.{Environment, logic_theories, signature_in, start, text_of, theories_of}
 
 -- the commands that are built
 abbrev pub is_built : Command → Bool
-is_built (check_sat_assuming ls) = false
 is_built (declare_datatype n d) = false
 is_built (declare_datatypes ss ds) = false
 is_built (define_fun f) = false
@@ -30,19 +32,13 @@ is_built (define_funs_rec fs ts) = false
 is_built (get_value ts) = false
 is_built command = true
 
--- The productions of terms that are built are the constant, the identifier, and the application of an identifier. The first
--- tree of another production is the fault, a tree before its parts.
-abbrev pub judge_head : ℕ → Qualified → Judging (Unit {0})
-judge_head at (unqualified i) = done tt
-judge_head at (qualified b i s) = refuse code.WrongTermForm at
-
+-- The productions of terms that are built are the constant, the identifier, also with `as`, and the application of one to
+-- terms. The first tree of another production is the fault, a tree before its parts.
 abbrev mutual
   pub judge_built : Term → Judging (Unit {0})
   judge_built (constant c) = done tt
-  judge_built (qualified_term q) = judge_head (qualified_at q) q
-  judge_built (application at q ts) = do
-    _ ← judge_head at q
-    judge_all_built ts
+  judge_built (qualified_term q) = done tt
+  judge_built (application at q ts) = judge_all_built ts
   judge_built (let_in at bs u) = refuse code.WrongTermForm at
   judge_built (for_all at vs u) = refuse code.WrongTermForm at
   judge_built (there_exists at vs u) = refuse code.WrongTermForm at
@@ -66,14 +62,14 @@ attribute_key (valued_attribute k v) = k
 
 -- the value of a numeral in the text
 abbrev pub value_of : Environment → Tok → ℕ
-value_of env n = numeral_value (slice_index_or env.names n.name [])
+value_of env n = numeral_value (text_of env n)
 
 -- Whether the command may stand here. The commands that may stand before the logic is set are set-logic, set-option, set-info,
 -- get-option, get-info, echo, reset and exit. At most 65,535 levels are open.
 abbrev pub judge_mode : Environment → ℕ → Command → Judging (Unit {0})
 judge_mode env at (set_logic n) = do
   _ ← check (env.logic ≡ false) code.LogicAlreadySet at
-  check (HasText env n (codes "QF_UF")) code.UnknownLogic at
+  check (IsTrue (is_some (logic_theories (text_of env n)))) code.UnknownLogic at
 judge_mode env at (set_option a) = check ((((attribute_key a).name == GLOBAL_DECLARATIONS) && env.logic) ≡ false) code.GlobalOptionTooLate at
 judge_mode env at (set_info a) = done tt
 judge_mode env at (get_option k) = done tt
@@ -125,32 +121,47 @@ abbrev pub is_bool : tree.Sort → Bool
 is_bool (tree.sort head.Bool ts) = true
 is_bool s = false
 
+-- the term is of sort Bool
+abbrev pub judge_bool : Environment → Term → Judging (Unit {0})
+judge_bool env t = do
+  u ← judge_term (signature_in env) [] t
+  check (IsTrue (is_bool (plain_sort u))) code.WrongTermSort (term_at t)
+
+-- each literal, read as a term, is of sort Bool
+abbrev pub judge_literals : Environment → List Literal → Judging (Unit {0})
+judge_literals env [] = done tt
+judge_literals env (l ∷ ls) = do
+  _ ← judge_bool env (literal_term l)
+  judge_literals env ls
+
 -- The names, sorts and terms of the command, and what it leads to. A name that is in use is the first fault of a declaration.
 -- `reset` forgets all but the names and the next number, since a number is never used again.
 abbrev pub judge_parts : Environment → Command → Judging Environment
 judge_parts env (assert t) = do
-  s ← judge_term env.names env.declarations core_alone t
-  _ ← check (IsTrue (is_bool s)) code.WrongTermSort (term_at t)
+  _ ← judge_bool env t
+  done env
+judge_parts env (check_sat_assuming ls) = do
+  _ ← judge_literals env ls
   done env
 judge_parts env (declare_const n s) = do
-  _ ← check (is_fun_in_use env.declarations n.name ≡ false) code.FunctionNameInUse n.at
-  result ← judge_sort env.names env.declarations core_alone [] s
+  _ ← check (is_fun_in_use (signature_in env) n.name ≡ false) code.FunctionNameInUse n.at
+  result ← judge_sort env.names env.declarations env.theories [] s
   done (with_function env n.name [] result)
 judge_parts env (declare_fun n ss s) = do
-  _ ← check (is_fun_in_use env.declarations n.name ≡ false) code.FunctionNameInUse n.at
-  args ← judge_sorts env.names env.declarations core_alone [] ss
-  result ← judge_sort env.names env.declarations core_alone [] s
+  _ ← check (is_fun_in_use (signature_in env) n.name ≡ false) code.FunctionNameInUse n.at
+  args ← judge_sorts env.names env.declarations env.theories [] ss
+  result ← judge_sort env.names env.declarations env.theories [] s
   done (with_function env n.name args result)
 judge_parts env (declare_sort n a) = do
-  _ ← check (is_sort_in_use env.names env.declarations core_alone n.name ≡ false) code.SortNameInUse n.at
+  _ ← check (is_sort_in_use (signature_in env) n.name ≡ false) code.SortNameInUse n.at
   _ ← check (value_of env a < 2 ^ 32) code.NumberTooLarge a.at
   done (with_free_sort env n.name (value_of env a))
 judge_parts env (define_sort n ps s) = do
-  _ ← check (is_sort_in_use env.names env.declarations core_alone n.name ≡ false) code.SortNameInUse n.at
+  _ ← check (is_sort_in_use (signature_in env) n.name ≡ false) code.SortNameInUse n.at
   _ ← judge_params [] ps
-  body ← judge_sort env.names env.declarations core_alone (map (λ p. p.name) ps) s
+  body ← judge_sort env.names env.declarations env.theories (map (λ p. p.name) ps) s
   done (with_defined_sort env n.name (length ps) body)
-judge_parts env (set_logic n) = done (record env { logic = true })
+judge_parts env (set_logic n) = done (record env { logic = true; theories = theories_of env n })
 judge_parts env (set_option a) = done (after_option env a)
 judge_parts env (push n) = done (record env { declarations = with_pushed (value_of env n) env.declarations })
 judge_parts env (pop n) = done (record env { declarations = with_popped (value_of env n) env.declarations })

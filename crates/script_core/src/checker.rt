@@ -4,7 +4,7 @@ ghost use Rattle.lex_core.specs.NameTable.{IsNameTable};
 ghost use Rattle.lex_core.specs.Token.{IsInterned, Token, fed_tokens, option_tokens, token_of};
 ghost use Rattle.sexp_core.specs.Sexp.{flat};
 ghost use Rattle.script_core.specs.Interned.{AreInterned};
-ghost use Rattle.script_core.specs.Checking.{Awaits, BreaksTree, BreaksWith, BreaksWithin, HasTaken, IfEnded, IfMore, IfRefused, IsReadyCore, environment_of};
+ghost use Rattle.script_core.specs.Checking.{Awaits, BreaksTree, BreaksWith, BreaksWithin, HasTaken, IfEnded, IfMore, IfRefused, IsReadyScope, environment_of};
 ghost use Rattle.script_core.specs.Checking.{AcceptsText, ExitsByte, ExitsBytes, ExitsWithin, RefusesByte, RefusesBytes, RefusesText, TakesByte, TakesBytes, TakesTokens, TakesTree};
 
 use crate::refusal::{Progress, Refusal, Stop};
@@ -68,12 +68,12 @@ impl Checker {
     // Takes a complete list.
     fn take_list(&mut self, tree: &Tree) -> Result<Progress, Stop>
         requires interned { AreInterned self.old.scope.world.names (flat tree.now) }
-        requires stands { IsReadyCore self.old.scope.world }
+        requires stands { IsReadyScope self.old.scope }
         requires few { self.old.count < 2 ^ 32 - 1 }
         ensures ok { IfOk result (λ progress. let env = environment_of self.old.scope.world.names in
             TakesTree (env self.old.scope) tree.now progress (env self.new.scope)) }
         ensures refused { IfErr result (λ e. IfRefused e (BreaksTree self.old tree.now)) }
-        ensures stands { OnOk result (IsReadyCore self.new.scope.world) }
+        ensures stands { OnOk result (IsReadyScope self.new.scope) }
         ensures counted { OnOk result (self.new.count ≡ self.old.count + 1) }
         ensures uncounted { IfErr result (λ e. self.new.count ≡ self.old.count) }
         ensures same { (self.new.scope.world.names ≡ self.old.scope.world.names) × (self.new.lexer ≡ self.old.lexer) × (self.new.builder ≡ self.old.builder) }

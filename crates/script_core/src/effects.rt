@@ -1,6 +1,6 @@
 //! What the commands that change something make of the environment, once their form and mode are judged (SMT-LIB 2.6,
 //! sections 4.1 and 4.2).
-ghost use Rattle.std.specs.Prelude.{◌≡◌, ◌==◌, ◌<◌, [], false, length, map, IfErr, IfOk, OnOk};
+ghost use Rattle.std.specs.Prelude.{◌≡◌, ◌==◌, ◌<◌, [], true, false, length, map, IfErr, IfOk, IsTrue, OnOk};
 ghost use Rattle.std.specs.List.{All, list_any};
 ghost use Rattle.sort_store.specs.Tree.{tree};
 ghost use Rattle.cmd_grammar.specs.CommandViews.{command_from};
@@ -8,14 +8,16 @@ ghost use Rattle.cmd_grammar.specs.Commands as command;
 ghost use Rattle.typer.specs.Ready.{IsReadySchema};
 ghost use Rattle.typer.specs.SortSymbols.{is_theory_sort};
 ghost use Rattle.typer.specs.Declarations.{without_assertions};
-ghost use Rattle.script_core.specs.Environment.{start};
-ghost use Rattle.script_core.specs.Rules.{after_option, judge_params, is_bool as is_bool_sort, is_true as is_true_value, with_defined_sort, with_free_sort, with_function};
-ghost use Rattle.script_core.specs.Effects.{Answers, AnswersParts, AnswersSort, AnswersSorts, AnswersTerm, IsDeclaredNamed, OnlySortsGrow, step_error_of};
-ghost use Rattle.script_core.specs.Checking.{IsReadyCore, environment_of};
+ghost use Rattle.term_store.specs.Term.{plain_sort, tree as term_tree};
+ghost use Rattle.script_core.specs.Environment.{start, theories_of};
+ghost use Rattle.script_core.specs.Rules.{after_option, judge_bool, judge_params, is_bool as is_bool_sort, is_true as is_true_value, with_defined_sort, with_free_sort, with_function};
+ghost use Rattle.script_core.specs.Effects.{Answers, AnswersParts, AnswersSort, AnswersSorts, AnswersTerm, IsDeclaredNamed, IsInMode, IsSameTo, OnlySortsGrow, step_error_of};
+ghost use Rattle.script_core.specs.Checking.{IsReadyScope, environment_of};
 
-use crate::rules::value_of;
+use crate::logic::{core_alone, logic_theories};
+use crate::rules::{text_of, value_of};
 use crate::scope::{Scope, StepError};
-use cmd_grammar::RawCommandKind;
+use cmd_grammar::{RawCommandKind, RawLiterals};
 use lex_core::{NameId, Place, Tok};
 use scope_stack::{FunEntry, FunKind, SortEntry};
 use sig_table::Code;
@@ -25,6 +27,7 @@ use term_grammar::{
     GLOBAL_DECLARATIONS, RawAttribute, RawAttributeKind, RawSort, RawSorts, RawSymbols, RawTerm,
     RawValue, RawValueKind, TRUE,
 };
+use term_store::TermRef;
 use typer::{TyError, is_fun_in_use, is_sort_in_use, type_sort, type_sorts, type_term};
 
 fn broken(code: Code, at: u32) -> StepError
@@ -44,11 +47,11 @@ fn step_error(error: TyError) -> StepError
 
 // The sort that a raw sort stands for, under the parameters of the command.
 fn sort_of(scope: &mut Scope, params: &[NameId], raw: RawSort) -> Result<SortRef, StepError>
-    requires stands { IsReadyCore scope.old.world }
+    requires stands { IsReadyScope scope.old }
     ensures answer { AnswersSort (environment_of scope.old.world.names scope.old) params.now raw.entry result }
     ensures schema { IfOk result (λ r. IsReadySchema scope.new.world.names scope.new.world.sorts (length params.now) r) }
     ensures grown { OnlySortsGrow scope.old scope.new }
-    ensures stands { IsReadyCore scope.new.world }
+    ensures stands { IsReadyScope scope.new }
 {
     match type_sort(&mut scope.world, params, raw) {
         Ok(sort) => Ok(sort),
@@ -73,11 +76,11 @@ fn list_of(alloc: Global, sorts: Vec<SortRef>) -> Result<Sorts, StepError>
 
 // The sorts that raw sorts stand for.
 fn sorts_of(scope: &mut Scope, raws: RawSorts) -> Result<Sorts, StepError>
-    requires stands { IsReadyCore scope.old.world }
+    requires stands { IsReadyScope scope.old }
     ensures answer { AnswersSorts (environment_of scope.old.world.names scope.old) raws.entry result }
     ensures schema { IfOk result (λ rs. All (IsReadySchema scope.new.world.names scope.new.world.sorts 0) rs) }
     ensures grown { OnlySortsGrow scope.old scope.new }
-    ensures stands { IsReadyCore scope.new.world }
+    ensures stands { IsReadyScope scope.new }
 {
     match type_sorts(&mut scope.world, &[], raws) {
         Ok(sorts) => list_of(scope.alloc, sorts),
@@ -85,36 +88,62 @@ fn sorts_of(scope: &mut Scope, raws: RawSorts) -> Result<Sorts, StepError>
     }
 }
 
-// The sort of a term.
-fn term_sort(scope: &mut Scope, term: &RawTerm) -> Result<SortRef, StepError>
-    requires stands { IsReadyCore scope.old.world }
-    ensures answer { AnswersTerm (environment_of scope.old.world.names scope.old) term.now result }
-    ensures grown { OnlySortsGrow scope.old scope.new }
-    ensures stands { IsReadyCore scope.new.world }
+// The typed term of a term.
+fn term_of(scope: &mut Scope, term: RawTerm) -> Result<TermRef, StepError>
+    requires stands { IsReadyScope scope.old }
+    ensures answer { AnswersTerm (environment_of scope.old.world.names scope.old) term.entry result }
+    ensures same { IsSameTo scope.old scope.new }
+    ensures stands { IsReadyScope scope.new }
 {
-    match type_term(&mut scope.world, term) {
-        Ok(sort) => Ok(sort),
+    match type_term(&mut scope.world, &[], term) {
+        Ok(term) => Ok(term),
         Err(error) => Err(step_error(error)),
     }
 }
 
-fn is_bool(sort: &SortRef) -> bool
-    ensures { result ≡ is_bool_sort (tree sort.now) }
+fn is_bool(term: &TermRef) -> bool
+    ensures { result ≡ is_bool_sort (plain_sort (term_tree term.now)) }
 {
-    matches!(sort.head(), Head::Bool)
+    matches!(term.sort().head(), Head::Bool)
 }
 
-// An asserted term is of sort Bool.
-fn assertion(scope: &mut Scope, term: &RawTerm) -> Result<(), StepError>
-    requires stands { IsReadyCore scope.old.world }
-    ensures answer { let names = scope.old.world.names in
-        AnswersParts (environment_of names scope.old) (command.assert term.now) result (environment_of names scope.new) }
-    ensures names { scope.new.world.names ≡ scope.old.world.names }
-    ensures stands { IsReadyCore scope.new.world }
+// The term is of sort Bool.
+fn bool_term(scope: &mut Scope, term: RawTerm) -> Result<(), StepError>
+    requires stands { IsReadyScope scope.old }
+    ensures answer { Answers (judge_bool (environment_of scope.old.world.names scope.old) term.entry) (λ u. u) result }
+    ensures same { IsSameTo scope.old scope.new }
+    ensures stands { IsReadyScope scope.new }
 {
-    let sort = term_sort(scope, term)?;
-    if !is_bool(&sort) {
-        return Err(broken(Code::WrongTermSort, term.at()));
+    let at = term.at();
+    let term = term_of(scope, term)?;
+    if !is_bool(&term) {
+        return Err(broken(Code::WrongTermSort, at));
+    }
+    Ok(())
+}
+
+fn assertion(scope: &mut Scope, term: RawTerm) -> Result<(), StepError>
+    requires stands { IsReadyScope scope.old }
+    ensures answer { let names = scope.old.world.names in
+        AnswersParts (environment_of names scope.old) (command.assert term.entry) result (environment_of names scope.new) }
+    ensures names { scope.new.world.names ≡ scope.old.world.names }
+    ensures stands { IsReadyScope scope.new }
+{
+    bool_term(scope, term)
+}
+
+// Each literal, read as a term, is of sort Bool.
+fn assumptions(scope: &mut Scope, literals: &RawLiterals) -> Result<(), StepError>
+    requires stands { IsReadyScope scope.old }
+    ensures answer { let names = scope.old.world.names in
+        AnswersParts (environment_of names scope.old) (command.check_sat_assuming literals.now) result (environment_of names scope.new) }
+    ensures names { scope.new.world.names ≡ scope.old.world.names }
+    ensures stands { IsReadyScope scope.new }
+{
+    let mut next = literals.split();
+    while let Some((first, rest)) = next {
+        bool_term(scope, first.term())?;
+        next = rest.split();
     }
     Ok(())
 }
@@ -126,7 +155,8 @@ fn add_function(
     args: Sorts,
     sort: SortRef,
 ) -> Result<(), StepError>
-    requires stands { IsReadyCore scope.old.world }
+    requires stands { IsReadyScope scope.old }
+    requires logic { IsTrue scope.old.logic }
     requires named { name < length scope.old.world.names }
     requires args { All (IsReadySchema scope.old.world.names scope.old.world.sorts 0) args }
     requires sort { IsReadySchema scope.old.world.names scope.old.world.sorts 0 sort }
@@ -134,7 +164,7 @@ fn add_function(
         OnOk result (environment_of names scope.new ≡ with_function (environment_of names scope.old) name (map tree args) (tree sort)) }
     ensures error { IfErr result (λ e. e ≡ StepError.NoMemory) }
     ensures names { scope.new.world.names ≡ scope.old.world.names }
-    ensures stands { IsReadyCore scope.new.world }
+    ensures stands { IsReadyScope scope.new }
 {
     let Some(next) = scope.next.checked_add(1) else {
         return Err(StepError::NoMemory);
@@ -156,12 +186,13 @@ fn add_function(
 }
 
 fn declare_const(scope: &mut Scope, name: &Tok, sort: RawSort) -> Result<(), StepError>
-    requires stands { IsReadyCore scope.old.world }
+    requires stands { IsReadyScope scope.old }
+    requires logic { IsTrue scope.old.logic }
     requires named { name.now.name < length scope.old.world.names }
     ensures answer { let names = scope.old.world.names in
         AnswersParts (environment_of names scope.old) (command.declare_const name.now sort.entry) result (environment_of names scope.new) }
     ensures names { scope.new.world.names ≡ scope.old.world.names }
-    ensures stands { IsReadyCore scope.new.world }
+    ensures stands { IsReadyScope scope.new }
 {
     if is_fun_in_use(&scope.world, name.name) {
         return Err(broken(Code::FunctionNameInUse, name.at));
@@ -176,12 +207,13 @@ fn declare_fun(
     args: RawSorts,
     sort: RawSort,
 ) -> Result<(), StepError>
-    requires stands { IsReadyCore scope.old.world }
+    requires stands { IsReadyScope scope.old }
+    requires logic { IsTrue scope.old.logic }
     requires named { name.now.name < length scope.old.world.names }
     ensures answer { let names = scope.old.world.names in
         AnswersParts (environment_of names scope.old) (command.declare_fun name.now args.entry sort.entry) result (environment_of names scope.new) }
     ensures names { scope.new.world.names ≡ scope.old.world.names }
-    ensures stands { IsReadyCore scope.new.world }
+    ensures stands { IsReadyScope scope.new }
 {
     if is_fun_in_use(&scope.world, name.name) {
         return Err(broken(Code::FunctionNameInUse, name.at));
@@ -193,14 +225,15 @@ fn declare_fun(
 
 // Declares a sort symbol of a free sort under the next number, as `add_function`.
 fn add_free_sort(scope: &mut Scope, name: NameId, arity: u32) -> Result<(), StepError>
-    requires stands { IsReadyCore scope.old.world }
+    requires stands { IsReadyScope scope.old }
+    requires logic { IsTrue scope.old.logic }
     requires named { name < length scope.old.world.names }
     requires free { is_theory_sort scope.old.world.names scope.old.world.theories name ≡ false }
     ensures effect { let names = scope.old.world.names in
         OnOk result (environment_of names scope.new ≡ with_free_sort (environment_of names scope.old) name arity) }
     ensures error { IfErr result (λ e. e ≡ StepError.NoMemory) }
     ensures names { scope.new.world.names ≡ scope.old.world.names }
-    ensures stands { IsReadyCore scope.new.world }
+    ensures stands { IsReadyScope scope.new }
 {
     let Some(next) = scope.next.checked_add(1) else {
         return Err(StepError::NoMemory);
@@ -220,12 +253,13 @@ fn add_free_sort(scope: &mut Scope, name: NameId, arity: u32) -> Result<(), Step
 }
 
 fn declare_sort(scope: &mut Scope, name: &Tok, arity: &Tok) -> Result<(), StepError>
-    requires stands { IsReadyCore scope.old.world }
+    requires stands { IsReadyScope scope.old }
+    requires logic { IsTrue scope.old.logic }
     requires named { name.now.name < length scope.old.world.names }
     ensures answer { let names = scope.old.world.names in
         AnswersParts (environment_of names scope.old) (command.declare_sort name.now arity.now) result (environment_of names scope.new) }
     ensures names { scope.new.world.names ≡ scope.old.world.names }
-    ensures stands { IsReadyCore scope.new.world }
+    ensures stands { IsReadyScope scope.new }
 {
     if is_sort_in_use(&scope.world, name.name) {
         return Err(broken(Code::SortNameInUse, name.at));
@@ -270,7 +304,8 @@ fn add_defined_sort(
     params: u32,
     sort: SortRef,
 ) -> Result<(), StepError>
-    requires stands { IsReadyCore scope.old.world }
+    requires stands { IsReadyScope scope.old }
+    requires logic { IsTrue scope.old.logic }
     requires named { name < length scope.old.world.names }
     requires free { is_theory_sort scope.old.world.names scope.old.world.theories name ≡ false }
     requires sort { IsReadySchema scope.old.world.names scope.old.world.sorts params sort }
@@ -278,7 +313,7 @@ fn add_defined_sort(
         OnOk result (environment_of names scope.new ≡ with_defined_sort (environment_of names scope.old) name params (tree sort)) }
     ensures error { IfErr result (λ e. e ≡ StepError.NoMemory) }
     ensures names { scope.new.world.names ≡ scope.old.world.names }
-    ensures stands { IsReadyCore scope.new.world }
+    ensures stands { IsReadyScope scope.new }
 {
     let entry = SortEntry::Defined { params, sort };
     match scope.world.scopes.declare_sort(name, entry) {
@@ -293,12 +328,13 @@ fn define_sort(
     params: &RawSymbols,
     sort: RawSort,
 ) -> Result<(), StepError>
-    requires stands { IsReadyCore scope.old.world }
+    requires stands { IsReadyScope scope.old }
+    requires logic { IsTrue scope.old.logic }
     requires named { name.now.name < length scope.old.world.names }
     ensures answer { let names = scope.old.world.names in
         AnswersParts (environment_of names scope.old) (command.define_sort name.now params.now sort.entry) result (environment_of names scope.new) }
     ensures names { scope.new.world.names ≡ scope.old.world.names }
-    ensures stands { IsReadyCore scope.new.world }
+    ensures stands { IsReadyScope scope.new }
 {
     if is_sort_in_use(&scope.world, name.name) {
         return Err(broken(Code::SortNameInUse, name.at));
@@ -321,12 +357,26 @@ fn is_true(value: &RawValue) -> bool
     }
 }
 
+// Sets the logic, and with it the theories whose symbols are known. Core alone is known where no logic has the name.
+fn set_logic(scope: &mut Scope, name: &Tok)
+    requires stands { IsReadyScope scope.old }
+    requires logic { scope.old.logic ≡ false }
+    ensures effect { let env = environment_of scope.old.world.names in
+        env scope.new ≡ record (env scope.old) { logic = true; theories = theories_of (env scope.old) name.now } }
+    ensures names { scope.new.world.names ≡ scope.old.world.names }
+    ensures stands { IsReadyScope scope.new }
+{
+    let theories = logic_theories(text_of(&scope.world.names, name.name));
+    scope.world.theories = theories.unwrap_or(core_alone());
+    scope.logic = true;
+}
+
 fn set_option(scope: &mut Scope, attribute: &RawAttribute)
-    requires stands { IsReadyCore scope.old.world }
+    requires stands { IsReadyScope scope.old }
     ensures effect { let names = scope.old.world.names in
         environment_of names scope.new ≡ after_option (environment_of names scope.old) attribute.now }
     ensures names { scope.new.world.names ≡ scope.old.world.names }
-    ensures stands { IsReadyCore scope.new.world }
+    ensures stands { IsReadyScope scope.new }
 {
     if let RawAttributeKind::Valued { keyword, value } = attribute.kind() {
         if keyword.name.number() == GLOBAL_DECLARATIONS {
@@ -336,11 +386,12 @@ fn set_option(scope: &mut Scope, attribute: &RawAttribute)
 }
 
 fn push(scope: &mut Scope, count: &Tok) -> Result<(), StepError>
-    requires stands { IsReadyCore scope.old.world }
+    requires stands { IsReadyScope scope.old }
+    requires logic { IsTrue scope.old.logic }
     ensures answer { let names = scope.old.world.names in
         AnswersParts (environment_of names scope.old) (command.push count.now) result (environment_of names scope.new) }
     ensures names { scope.new.world.names ≡ scope.old.world.names }
-    ensures stands { IsReadyCore scope.new.world }
+    ensures stands { IsReadyScope scope.new }
 {
     let Some(levels) = value_of(&scope.world.names, count) else {
         return Err(StepError::NoMemory);
@@ -352,11 +403,12 @@ fn push(scope: &mut Scope, count: &Tok) -> Result<(), StepError>
 }
 
 fn pop(scope: &mut Scope, count: &Tok) -> Result<(), StepError>
-    requires stands { IsReadyCore scope.old.world }
+    requires stands { IsReadyScope scope.old }
+    requires logic { IsTrue scope.old.logic }
     ensures answer { let names = scope.old.world.names in
         AnswersParts (environment_of names scope.old) (command.pop count.now) result (environment_of names scope.new) }
     ensures names { scope.new.world.names ≡ scope.old.world.names }
-    ensures stands { IsReadyCore scope.new.world }
+    ensures stands { IsReadyScope scope.new }
 {
     let Some(levels) = value_of(&scope.world.names, count) else {
         return Err(StepError::NoMemory);
@@ -367,24 +419,26 @@ fn pop(scope: &mut Scope, count: &Tok) -> Result<(), StepError>
     }
 }
 
-// Forgets all but the names, the sorts made so far and the next number.
+// Forgets all but the names, the sorts and terms made so far, and the next number.
 fn reset(scope: &mut Scope)
-    requires stands { IsReadyCore scope.old.world }
+    requires stands { IsReadyScope scope.old }
     ensures effect { let names = scope.old.world.names in
         environment_of names scope.new ≡ record start { names = names; next = scope.old.next } }
     ensures names { scope.new.world.names ≡ scope.old.world.names }
-    ensures stands { IsReadyCore scope.new.world }
+    ensures stands { IsReadyScope scope.new }
 {
     scope.world.scopes.reset();
+    scope.world.theories = core_alone();
     scope.logic = false;
 }
 
 fn reset_assertions(scope: &mut Scope)
-    requires stands { IsReadyCore scope.old.world }
+    requires stands { IsReadyScope scope.old }
+    requires logic { IsTrue scope.old.logic }
     ensures effect { let env = environment_of scope.old.world.names in
         env scope.new ≡ record (env scope.old) { declarations = without_assertions (env scope.old).declarations } }
     ensures names { scope.new.world.names ≡ scope.old.world.names }
-    ensures stands { IsReadyCore scope.new.world }
+    ensures stands { IsReadyScope scope.new }
 {
     scope.world.scopes.reset_assertions();
 }
@@ -392,15 +446,17 @@ fn reset_assertions(scope: &mut Scope)
 /// Judges the names, sorts and terms of a command whose form and mode are judged, and does what it leads to. `Broken` comes
 /// exactly where one breaks a rule.
 pub fn take_parts(scope: &mut Scope, command: RawCommandKind) -> Result<(), StepError>
-    requires stands { IsReadyCore scope.old.world }
+    requires stands { IsReadyScope scope.old }
     requires named { IsDeclaredNamed scope.old.world.names (command_from command) }
+    requires mode { IsInMode scope.old.logic (command_from command) }
     ensures answer { let names = scope.old.world.names in
         AnswersParts (environment_of names scope.old) (command_from command.entry) result (environment_of names scope.new) }
     ensures names { scope.new.world.names ≡ scope.old.world.names }
-    ensures stands { IsReadyCore scope.new.world }
+    ensures stands { IsReadyScope scope.new }
 {
     match command {
-        RawCommandKind::Assert(term) => assertion(scope, &term),
+        RawCommandKind::Assert(term) => assertion(scope, term),
+        RawCommandKind::CheckSatAssuming(literals) => assumptions(scope, &literals),
         RawCommandKind::DeclareConst { name, sort } => declare_const(scope, &name, sort),
         RawCommandKind::DeclareFun { name, args, result } => declare_fun(
             scope, &name, args, result,
@@ -411,8 +467,8 @@ pub fn take_parts(scope: &mut Scope, command: RawCommandKind) -> Result<(), Step
         }
         RawCommandKind::Push(count) => push(scope, &count),
         RawCommandKind::Pop(count) => pop(scope, &count),
-        RawCommandKind::SetLogic(_) => {
-            scope.logic = true;
+        RawCommandKind::SetLogic(name) => {
+            set_logic(scope, &name);
             Ok(())
         }
         RawCommandKind::SetOption(attribute) => {

@@ -1,18 +1,18 @@
 //! The rules of commands (SMT-LIB 2.6, sections 3.9 and 4.2) that come before their names, sorts and terms.
-ghost use Rattle.std.specs.Prelude.{◌≡◌, ◌↔◌, ◌≤◌, ◌^◌, [], IfSome, IsNone, slice_index_or, slice_get};
+ghost use Rattle.std.specs.Prelude.{◌≡◌, ◌↔◌, ◌≤◌, ◌^◌, [], IfSome, IsNone, slice_index_or};
 ghost use Rattle.cmd_grammar.specs.CommandViews.{command_from};
 ghost use Rattle.typer.specs.Numerals.{numeral_value as value_of_text};
 ghost use Rattle.script_core.specs.Rules.{attribute_key as key_of_attribute};
-ghost use Rattle.script_core.specs.RuleAnswers.{answer_all_built, answer_built, answer_form, answer_head, answer_mode, answer_pop, answer_push, both, is_text, test};
+ghost use Rattle.script_core.specs.RuleAnswers.{answer_all_built, answer_built, answer_form, answer_mode, answer_pop, answer_push, both, test};
 ghost use Rattle.script_core.specs.Checking.{environment_of};
 
+use crate::logic::logic_theories;
 use crate::scope::Scope;
 use cmd_grammar::RawCommandKind;
 use lex_core::{NameId, Names, Place, Tok};
 use sig_table::Code;
 use term_grammar::{
-    GLOBAL_DECLARATIONS, RawAttribute, RawAttributeKind, RawQualified, RawQualifiedKind, RawTerm,
-    RawTermKind, RawTerms,
+    GLOBAL_DECLARATIONS, RawAttribute, RawAttributeKind, RawTerm, RawTermKind, RawTerms,
 };
 use typer::numeral_value;
 
@@ -25,16 +25,6 @@ pub fn text_of(names: &Names, id: NameId) -> &[u8]
     } else {
         b""
     }
-}
-
-// Whether the text of the name is this one. It is not where the table does not have the name.
-fn has_text(names: &Names, id: NameId, text: &[u8]) -> bool
-    ensures { result ≡ is_text (slice_get names.now id) text.now }
-{
-    if id.number() as usize >= names.count() {
-        return false;
-    }
-    names.text(id) == text
 }
 
 /// The value of a numeral; none exactly where it is above 4,294,967,295.
@@ -61,18 +51,6 @@ pub fn attribute_key(attribute: &RawAttribute) -> Tok
         RawAttributeKind::Valued { keyword, .. } => keyword,
     }
 }
-// An identifier is a head that is built, and one with `as` is not.
-fn judge_head(at: u32, head: &RawQualified) -> Result<(), Place>
-    ensures { result ≡ answer_head at head.now }
-{
-    match head.kind() {
-        RawQualifiedKind::Identifier(_) => Ok(()),
-        RawQualifiedKind::As { .. } => Err(Place {
-            code: Code::WrongTermForm,
-            at,
-        }),
-    }
-}
 
 /// Finds the first tree of a production that is not built, a tree before its parts.
 #[cycle(built)]
@@ -81,12 +59,8 @@ pub fn judge_built(term: &RawTerm) -> Result<(), Place>
 {
     let at = term.at();
     match term.kind() {
-        RawTermKind::Constant(_) => Ok(()),
-        RawTermKind::Qualified(head) => judge_head(at, &head),
-        RawTermKind::Application { head, args } => {
-            judge_head(at, &head)?;
-            judge_all_built(&args)
-        }
+        RawTermKind::Constant(_) | RawTermKind::Qualified(_) => Ok(()),
+        RawTermKind::Application { args, .. } => judge_all_built(&args),
         RawTermKind::Let { .. }
         | RawTermKind::Forall { .. }
         | RawTermKind::Exists { .. }
@@ -116,8 +90,7 @@ fn judge_form(at: u32, command: &RawCommandKind) -> Result<(), Place>
 {
     match command {
         RawCommandKind::Assert(term) => judge_built(term),
-        RawCommandKind::CheckSatAssuming(_)
-        | RawCommandKind::DeclareDatatype { .. }
+        RawCommandKind::DeclareDatatype { .. }
         | RawCommandKind::DeclareDatatypes { .. }
         | RawCommandKind::DefineFun(_)
         | RawCommandKind::DefineFunRec(_)
@@ -158,8 +131,8 @@ fn judge_mode(scope: &Scope, at: u32, command: &RawCommandKind) -> Result<(), Pl
     match command {
         RawCommandKind::SetLogic(name) => {
             rule(!scope.logic, Code::LogicAlreadySet, at)?;
-            let known = has_text(&scope.world.names, name.name, b"QF_UF");
-            rule(known, Code::UnknownLogic, at)
+            let theories = logic_theories(text_of(&scope.world.names, name.name));
+            rule(theories.is_some(), Code::UnknownLogic, at)
         }
         RawCommandKind::SetOption(attribute) => {
             let global = attribute_key(attribute).name.number() == GLOBAL_DECLARATIONS;

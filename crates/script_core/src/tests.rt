@@ -21,6 +21,7 @@ fn answer(
     if let Err(stop) = session.feed(front) {
         return Ok((Err(stop), session.count()));
     }
+    assert!(rt; session.taken() < 5000);
     if let Err(stop) = session.feed(back) {
         return Ok((Err(stop), session.count()));
     }
@@ -235,6 +236,154 @@ fn refuses_sorts_and_levels_at_their_bytes(rt: HostRuntime) -> Result<(), Fail> 
 }
 
 #[test]
+fn refuses_names_of_theories_at_their_bytes(rt: HostRuntime) -> Result<(), Fail> {
+    let rows: [(&[u8], u32, u32, Code); 5] = [
+        (
+            b"(set-logic QF_UF)(declare-const x Int)",
+            2,
+            34,
+            Code::UnknownSort,
+        ),
+        (
+            b"(set-logic ALL)(reset)(set-logic QF_UF)(declare-const x Int)",
+            4,
+            56,
+            Code::UnknownSort,
+        ),
+        (
+            b"(set-logic ALL)(declare-const select Bool)",
+            2,
+            30,
+            Code::FunctionNameInUse,
+        ),
+        (
+            b"(set-logic ALL)(declare-sort Int 0)",
+            2,
+            29,
+            Code::SortNameInUse,
+        ),
+        (
+            b"(set-logic QF_UF)(declare-const or Bool)",
+            2,
+            32,
+            Code::FunctionNameInUse,
+        ),
+    ];
+    for (text, command, at, rule) in &rows {
+        try_refused(&rt, rt.alloc(), text, *command, *at, *rule)?;
+    }
+    Ok(())
+}
+
+#[test]
+fn refuses_terms_of_theories_at_their_bytes(rt: HostRuntime) -> Result<(), Fail> {
+    let rows: [(&[u8], u32, u32, Code); 7] = [
+        (
+            b"(set-logic ALL)(declare-const x Int)(assert (= x true))",
+            3,
+            44,
+            Code::NoRank,
+        ),
+        (
+            b"(set-logic ALL)(declare-const x Int)(assert (= (as x Bool) 1))",
+            3,
+            47,
+            Code::WrongQualifiedSort,
+        ),
+        (b"(set-logic ALL)(assert 1)", 2, 23, Code::WrongTermSort),
+        (
+            b"(set-logic ALL)(assert \"a\")",
+            2,
+            23,
+            Code::LiteralWithoutSort,
+        ),
+        (
+            b"(set-logic ALL)(declare-const x Int)(assert ((_ divisible 0) x))",
+            3,
+            44,
+            Code::WrongIndex,
+        ),
+        (
+            b"(set-logic ALL)(declare-const x Int)(assert ((_ divisible) x))",
+            3,
+            44,
+            Code::WrongTermForm,
+        ),
+        (
+            b"(set-logic ALL)(declare-const x Int)(assert ((_ divisible 3) true))",
+            3,
+            44,
+            Code::NoRank,
+        ),
+    ];
+    for (text, command, at, rule) in &rows {
+        try_refused(&rt, rt.alloc(), text, *command, *at, *rule)?;
+    }
+    Ok(())
+}
+
+#[test]
+fn refuses_literals_at_their_bytes(rt: HostRuntime) -> Result<(), Fail> {
+    let rows: [(&[u8], u32, u32, Code); 3] = [
+        (
+            b"(set-logic QF_UF)(declare-const p Bool)(check-sat-assuming (p (not p) q))",
+            3,
+            70,
+            Code::UnknownFunction,
+        ),
+        (
+            b"(set-logic QF_UF)(check-sat-assuming ((not q)))",
+            2,
+            43,
+            Code::UnknownFunction,
+        ),
+        (
+            b"(set-logic ALL)(declare-const x Int)(check-sat-assuming (x y))",
+            3,
+            57,
+            Code::WrongTermSort,
+        ),
+    ];
+    for (text, command, at, rule) in &rows {
+        try_refused(&rt, rt.alloc(), text, *command, *at, *rule)?;
+    }
+    Ok(())
+}
+
+#[test]
+fn accepts_terms_of_theories(rt: HostRuntime) -> Result<(), Fail> {
+    let rows: [(&[u8], u32); 6] = [
+        (
+            b"(set-logic ALL)(declare-const a Bool)(declare-const x Int)\
+            (assert (= x (- 5) (- 7 2 1)))(assert (=> a a a))(assert (distinct x 1 2))",
+            6,
+        ),
+        (
+            b"(set-logic ALL)(declare-const x Int)(assert (= (as x Int) 1))",
+            3,
+        ),
+        (
+            b"(set-logic ALL)(declare-const a (Array Int Int))\
+            (assert (= (select (store a 0 1) 0) 1))",
+            3,
+        ),
+        (
+            b"(set-logic ALL)(declare-const x Int)(assert ((_ divisible 3) x))",
+            3,
+        ),
+        (
+            b"(set-logic QF_UF)(declare-const p Bool)(check-sat-assuming (p (not p)))",
+            3,
+        ),
+        (b"(set-logic QF_UF)(declare-const select Bool)", 2),
+    ];
+    for (text, count) in &rows {
+        assert_eq!(rt; answer(&rt, rt.alloc(), text, 0)?, (Ok(()), *count));
+    }
+    Ok(())
+}
+
+#[test]
 fn accepts_sorts_on_their_levels(rt: HostRuntime) -> Result<(), Fail> {
     let rows: [(&[u8], u32); 3] = [
         (
@@ -321,10 +470,10 @@ fn takes_one_byte_at_a_time(rt: HostRuntime) -> Result<(), Fail> {
 #[test]
 fn accepts_the_commands_that_are_built(rt: HostRuntime) -> Result<(), Fail> {
     let text: &[u8] = b"(set-option :global-declarations true)(set-info :a (b))(get-option :a)\
-        (get-info :name)(echo \"a\")(set-logic QF_UF)(declare-const p Bool)(declare-const or Bool)\
-        (assert (and p (not or) true))(check-sat)(get-assertions)(get-assignment)(get-model)\
+        (get-info :name)(echo \"a\")(set-logic QF_UF)(declare-const p Bool)(declare-const q Bool)\
+        (assert (and p (not q) true))(check-sat)(check-sat-assuming (p (not p)))(get-assertions)(get-assignment)(get-model)\
         (get-proof)(get-unsat-assumptions)(get-unsat-core)(set-option :a 1)";
-    assert_eq!(rt; answer(&rt, rt.alloc(), text, 0)?, (Ok(()), 17));
+    assert_eq!(rt; answer(&rt, rt.alloc(), text, 0)?, (Ok(()), 18));
     Ok(())
 }
 

@@ -1,4 +1,5 @@
-use Rattle.script_core.proofs.TakingParts.{added_env, sort_added, sort_stands}
+use Rattle.script_core.proofs.TakingParts.{added_env, sort_added}
+use Rattle.script_core.proofs.ReadyScopes.{sort_stands}
 use Rattle.script_core.proofs.effects.add_free_sort.Goals as goal
 
 pub returns-in-Ok-clause-effect : goal.returns-in-Ok-clause-effect
@@ -6,4 +7,5 @@ returns-in-Ok-clause-effect c = let scope = c.args.scope.now in
     added_env scope.world.names scope c.declare_sort.new.self c.in-Some.next _ (sort_added c.args.name _ scope.world.scopes c.declare_sort.new.self c.in-Ok.ensures.ok) c.in-Some.ensures.1
 
 pub returns-in-Ok-clause-stands : goal.returns-in-Ok-clause-stands
-returns-in-Ok-clause-stands c = sort_stands c.args.scope.now.world c.declare_sort.new.self c.args.name _ c.requires.stands c.in-Ok.ensures.ok c.requires.named c.requires.free tt
+returns-in-Ok-clause-stands c =
+    sort_stands c.args.scope.now c.declare_sort.new.self c.in-Some.next c.requires.stands c.requires.logic c.args.name _ c.in-Ok.ensures.ok c.requires.named c.requires.free tt

@@ -1,5 +1,6 @@
 use Rattle.std.proofs.Common.{refl}
-use Rattle.script_core.proofs.TakingParts.{added_env, fun_added, fun_stands}
+use Rattle.script_core.proofs.TakingParts.{added_env, fun_added}
+use Rattle.script_core.proofs.ReadyScopes.{fun_stands}
 use Rattle.script_core.proofs.effects.add_function.Goals as goal
 
 pub returns-in-Ok-clause-effect : goal.returns-in-Ok-clause-effect
@@ -8,4 +9,4 @@ returns-in-Ok-clause-effect c = let scope = c.args.scope.now in
 
 pub returns-in-Ok-clause-stands : goal.returns-in-Ok-clause-stands
 returns-in-Ok-clause-stands c =
-    fun_stands c.args.scope.now.world c.declare_fun.new.self c.args.name _ c.requires.stands c.in-Ok.ensures.ok c.requires.named (record { args = c.requires.args; result = c.requires.sort; params = λ _. refl })
+    fun_stands c.args.scope.now c.declare_fun.new.self c.in-Some.next c.requires.stands c.requires.logic c.args.name _ c.in-Ok.ensures.ok c.requires.named (record { args = c.requires.args; result = c.requires.sort; params = λ _. refl })

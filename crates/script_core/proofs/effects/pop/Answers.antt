@@ -1,6 +1,7 @@
 use Rattle.std.proofs.Common.{◌∙◌, ap, refl}
 use Rattle.typer.specs.Declarations.{declarations_of, with_popped}
-use Rattle.script_core.proofs.TakingParts.{declared_env, levels_popped, popped_stands}
+use Rattle.script_core.proofs.TakingParts.{declared_env, levels_popped}
+use Rattle.script_core.proofs.ReadyScopes.{popped_stands}
 use Rattle.script_core.proofs.effects.pop.Goals as goal
 
 pub returns-in-Ok-clause-answer : goal.returns-in-Ok-clause-answer
@@ -8,4 +9,5 @@ returns-in-Ok-clause-answer c = let scope = c.args.scope.now in
     (declared_env scope.world.names scope c.pop.new.self scope.next _ (levels_popped c.in-Some.levels scope.world.scopes c.pop.new.self c.in-Ok.ensures.ok ∙ ap (λ n. with_popped n (declarations_of scope.world.scopes)) c.in-Some.ensures.value), refl)
 
 pub returns-in-Ok-clause-stands : goal.returns-in-Ok-clause-stands
-returns-in-Ok-clause-stands c = popped_stands c.args.scope.now.world c.pop.new.self c.in-Some.levels c.requires.stands c.in-Ok.ensures.ok
+returns-in-Ok-clause-stands c = let scope = c.args.scope.now in
+    popped_stands scope c.pop.new.self scope.next c.requires.stands c.requires.logic c.in-Some.levels c.in-Ok.ensures.ok

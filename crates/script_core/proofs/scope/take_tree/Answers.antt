@@ -1,7 +1,7 @@
 use Rattle.std.proofs.Common.{◌∙◌, ap, sym, Ok}
 use Rattle.cmd_grammar.specs.CommandViews.{command_from}
 use Rattle.script_core.specs.Checking.{environment_of}
-use Rattle.script_core.proofs.RuleMeanings.{command_named, tree_broken, tree_no_command, tree_refused, tree_takes}
+use Rattle.script_core.proofs.RuleMeanings.{command_in_mode, command_named, tree_broken, tree_no_command, tree_refused, tree_takes}
 use Rattle.script_core.proofs.scope.take_tree.Goals as goal
 
 pub returns-in-Err-Fault-clause-answer : goal.returns-in-Err-Fault-clause-answer
@@ -16,6 +16,10 @@ returns-in-Err-clause-answer c =
 pub take_parts-requires-clause-named : goal.take_parts-requires-clause-named
 take_parts-requires-clause-named c =
     command_named c.args.scope.now.world.names c.args.tree.now (command_from c.kind-command.result) c.requires.interned (c.in-Ok.ensures.0 ∙ ap Ok c.kind-command.ensures)
+
+pub take_parts-requires-clause-mode : goal.take_parts-requires-clause-mode
+take_parts-requires-clause-mode c =
+    command_in_mode (environment_of c.args.scope.now.world.names c.args.scope.now) c.at.result (command_from c.kind-command.result) (sym c.in-Ok-judge_command.ensures)
 
 pub returns-in-Ok-take_parts-clause-answer : goal.returns-in-Ok-take_parts-clause-answer
 returns-in-Ok-take_parts-clause-answer c = let names = c.args.scope.now.world.names in

@@ -1,8 +1,9 @@
 use Rattle.std.proofs.Common.{length, ap, refl, arith}
 use Rattle.script_core.proofs.FollowingTokens.{starts}
+use Rattle.script_core.proofs.ReadyScopes.{none_in}
 use Rattle.script_core.proofs.checker.Checker.new.Goals as goal
 
 pub returns : goal.returns
-returns c =
-    starts _ c.new-3.ensures refl c.in_ok-world.ensures.scopes refl refl c.new-2.ensures.initial c.in_ok-world.ensures.names c.known_table.ensures
-    (record { ready = c.in_ok-world.ensures.ready; core = c.in_ok-world.ensures.theories }) (omega (arith, ap length c.in_ok-world.ensures.names))
+returns c = let world = c.in_ok-world.ensures in
+    starts _ c.new-3.ensures refl world.theories world.scopes refl refl c.new-2.ensures.initial world.names c.known_table.ensures
+    (record { ready = world.ready; undeclared = λ _. none_in _ world.scopes }) (omega (arith, ap length world.names))

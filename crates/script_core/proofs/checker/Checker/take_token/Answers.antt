@@ -6,7 +6,7 @@ take_list-requires-clause-interned c = let some = c.in-Ok-Some in
     tree_interned c.args.self.now c.args.tok some.field-0 some.tree c.requires.interned c.requires.awaits.1.follows.interned some.field-0-is (some.ensures.tree c.requires.awaits.1.follows.no_error)
 
 pub take_list-requires-clause-stands : goal.take_list-requires-clause-stands
-take_list-requires-clause-stands c = let f = c.requires.awaits.1.follows in record { ready = f.ready; core = f.core }
+take_list-requires-clause-stands c = c.requires.awaits.1.follows.stands
 
 pub returns-in-Ok-None-clause-more : goal.returns-in-Ok-None-clause-more
 returns-in-Ok-None-clause-more c = λ tokens awaits. let none = c.in-Ok-None in

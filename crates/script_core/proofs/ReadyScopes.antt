@@ -1,0 +1,90 @@
+-- A scope stays ready through the commands that change it.
+use Rattle.std.proofs.Common.{◌≡◌, ℕ, ◌<◌, Bool, true, false, List, [], length, IsTrue, refl, sym, ◌∙◌, subst}
+use Rattle.std.specs.List.{All}
+use Rattle.std.proofs.lemmas.Bool.{false≢true}
+use Rattle.sig_table.specs.declared.theories.Theories.{Theories}
+use Rattle.sort_store.specs.Interned.{HasNoRepeats}
+use Rattle.scope_stack.specs.declared.entry.FunEntry.{FunEntry}
+use Rattle.scope_stack.specs.declared.entry.SortEntry.{SortEntry}
+use Rattle.scope_stack.specs.Environment.{Environment as Scopes}
+use Rattle.scope_stack.specs.Environment as scopes
+use Rattle.typer.specs.Ready.{IsReady, IsReadyFun, IsReadyFunEntry, IsReadySort, IsReadySortEntry}
+use Rattle.typer.specs.SortSymbols.{is_theory_sort}
+use Rattle.typer.specs.declared.world.World.{World}
+use Rattle.typer.proofs.LiveDeclarations.{all_of_each}
+use Rattle.typer.proofs.ReadyCalls.{ready_with_fun, ready_with_global, ready_with_popped, ready_with_pushed, ready_with_sort, ready_without_assertions}
+use Rattle.script_core.specs.declared.scope.Scope.{Scope}
+use Rattle.script_core.specs.Checking.{HasNone, IsReadyScope}
+
+-- the world with other scopes
+abbrev pub with_scopes : Scopes → Scope → Scope
+with_scopes s scope = record scope { world = record scope.world { scopes = s } }
+
+-- where a logic is set, declarations may be live
+under_logic : {A : Type 0} (logic : Bool) → IsTrue logic → logic ≡ false → A
+under_logic logic set unset = absurd (false≢true (sym unset ∙ set))
+
+stands_under : (scope : Scope) → IsTrue scope.logic → IsReady scope.world → IsReadyScope scope
+stands_under scope set ready = record { ready = ready; undeclared = under_logic scope.logic set }
+
+module _ (scope : Scope) (s : Scopes) (next : ℕ) (stands : IsReadyScope scope) (set : IsTrue scope.logic) where
+  abbrev after : Scope
+  after = record (with_scopes s scope) { next = next }
+
+  -- the scopes after a call are these, with which the world is ready
+  stands_with : (t : Scopes) → s ≡ t → IsReady (record scope.world { scopes = t }) → IsReadyScope after
+  stands_with t e ready = stands_under after set (subst (λ (x : Scopes). IsReady (record scope.world { scopes = x })) (sym e) ready)
+
+  pub fun_stands : (name : ℕ) (d : FunEntry) → s ≡ scopes.with_fun name d scope.world.scopes → name < length scope.world.names → IsReadyFunEntry scope.world.names scope.world.sorts d → IsReadyScope after
+  fun_stands name d e named entry = stands_with _ e (ready_with_fun scope.world stands.ready name d (record { name = named; entry = entry }))
+
+  pub sort_stands : (name : ℕ) (d : SortEntry) → s ≡ scopes.with_sort name d scope.world.scopes → name < length scope.world.names
+      → is_theory_sort scope.world.names scope.world.theories name ≡ false → IsReadySortEntry scope.world.names scope.world.sorts d → IsReadyScope after
+  sort_stands name d e named free entry =
+      stands_with _ e (ready_with_sort scope.world stands.ready name d (record { name = named; no_theory_sort = free; entry = entry }))
+
+  pub pushed_stands : (n : ℕ) → s ≡ scopes.with_pushed n scope.world.scopes → IsReadyScope after
+  pushed_stands n e = stands_with _ e (ready_with_pushed scope.world stands.ready n)
+
+  pub popped_stands : (n : ℕ) → s ≡ scopes.with_popped n scope.world.scopes → IsReadyScope after
+  popped_stands n e = stands_with _ e (ready_with_popped scope.world stands.ready n)
+
+  pub forgotten_stands : s ≡ scopes.without_assertions scope.world.scopes → IsReadyScope after
+  forgotten_stands e = stands_with _ e (ready_without_assertions scope.world stands.ready)
+
+-- a world without declarations is ready under any theories
+ready_undeclared : (world : World) → HasNone world.scopes → HasNoRepeats world.sorts → IsReady world
+ready_undeclared world none distinct = record {
+  distinct = distinct;
+  sorts = subst (λ (ds : List (ℕ × SortEntry)). All (IsReadySort world.names world.theories world.sorts) ds) (sym none.sorts) (all_of_each _ [] tt);
+  funs = subst (λ (ds : List (ℕ × FunEntry)). All (IsReadyFun world.names world.sorts) ds) (sym none.funs) (all_of_each _ [] tt);
+}
+
+abbrev pub under_theories : Theories → Bool → Scope → Scope
+under_theories theories logic scope = record scope { world = record scope.world { theories = theories }; logic = logic }
+
+-- a logic brings its theories
+pub logic_stands : (scope : Scope) (theories : Theories) → IsReadyScope scope → scope.logic ≡ false → IsReadyScope (under_theories theories true scope)
+logic_stands scope theories stands unset =
+    stands_under (under_theories theories true scope) refl (ready_undeclared (record scope.world { theories = theories }) (stands.undeclared unset) stands.ready.distinct)
+
+pub none_in : (s : Scopes) → s ≡ scopes.empty → HasNone s
+none_in s e = subst HasNone (sym e) (record { funs = refl; sorts = refl })
+
+-- nothing is declared after reset, whatever the theories are
+pub reset_stands : (scope : Scope) (s : Scopes) (theories : Theories) → IsReadyScope scope → s ≡ scopes.empty → IsReadyScope (under_theories theories false (with_scopes s scope))
+reset_stands scope s theories stands e = record {
+  ready = ready_undeclared (record scope.world { scopes = s; theories = theories }) (none_in s e) stands.ready.distinct;
+  undeclared = λ unset. none_in s e;
+}
+
+-- a flag declares nothing
+pub option_stands : (scope : Scope) (s : Scopes) (on : Bool) → IsReadyScope scope → s ≡ scopes.with_global on scope.world.scopes → IsReadyScope (with_scopes s scope)
+option_stands scope s on stands e = record {
+  ready = subst (λ (x : Scopes). IsReady (record scope.world { scopes = x })) (sym e) (ready_with_global scope.world stands.ready on);
+  undeclared = λ unset. subst HasNone (sym e) (record { funs = (stands.undeclared unset).funs; sorts = (stands.undeclared unset).sorts });
+}
+
+-- the world has made sorts and terms, and nothing else
+pub grown_stands : (scope : Scope) (world : World) → IsReadyScope scope → world.scopes ≡ scope.world.scopes → IsReady world → IsReadyScope (record scope { world = world })
+grown_stands scope world stands same ready = record { ready = ready; undeclared = λ unset. subst HasNone (sym same) (stands.undeclared unset) }

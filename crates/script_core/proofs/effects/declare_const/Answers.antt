@@ -1,0 +1,8 @@
+use Rattle.std.proofs.Common.{◌∙◌, sym}
+use Rattle.script_core.proofs.TakingParts.{const_answer}
+use Rattle.script_core.proofs.effects.declare_const.Goals as goal
+
+pub returns-clause-answer : goal.returns-clause-answer
+returns-clause-answer c =
+    const_answer c.args.scope.now c.sort_of.new.scope c.add_function.new.scope c.args.name.now c.args.sort c.new.result c.in_ok-sort.sort c.add_function.result
+    (sym c.is_fun_in_use.ensures ∙ c.if-is_fun_in_use.false) c.in_ok-sort.ensures.answer c.sort_of.ensures.grown c.new.ensures c.add_function.ensures.effect c.add_function.ensures.error
