@@ -11,6 +11,7 @@ pub mod Laws
 pub mod Interned
 pub mod Outline
 pub mod TermKeys
+pub mod Command
 pub mod Definitions
 pub mod DefinitionTables
 pub mod Script

@@ -7,22 +7,16 @@ use Rattle.sort_store.specs.declared.head.Head.TheVariants as head
 use Rattle.lex_core.specs.NameTable.{fixed_texts}
 use Rattle.sort_store.specs.Instance.{inst}
 use Rattle.sort_store.specs.Ranks.{ranks_of, HasRank}
-use Rattle.sort_store.specs.CoreRanks.{core_symbols}
+use Rattle.sort_store.specs.CoreRanks.{bool, core_symbols}
 use Rattle.sort_store.specs.Tree.{Sort, sort, SortList, no_sorts, more_sorts, sorts}
-use Rattle.sort_store.specs.Tree as stored
-use Rattle.term_store.specs.declared.command.Constructor.{Constructor}
-use Rattle.term_store.specs.declared.command.Datatype.{Datatype}
-use Rattle.term_store.specs.declared.command.Field.{Field}
+use Rattle.term_store.specs.Command.{PlainField, PlainConstructor, PlainDatatype}
 use Rattle.term_store.specs.declared.parts.Applied.{Applied}
 use Rattle.term_store.specs.declared.parts.Fun.{Fun}
 use Rattle.term_store.specs.declared.parts.Fun.TheVariants as fun
 use Rattle.term_store.specs.declared.parts.Pattern.{Pattern}
 use Rattle.term_store.specs.declared.parts.Pattern.TheVariants as patterns
 use Rattle.term_store.specs.Declarations.{Declaration, sort_symbol, function_symbol, datatype, constructor_of, selector_of, definition, term_name, number_given}
-use Rattle.term_store.specs.Term.{Term, Node, Terms, Cases, Note, Notes, term, lit, var, app, let_in, quant, match_on, ann, no_terms, more_terms, no_cases, more_cases, named, pattern, other, no_notes, more_notes, sort_of, plain_sort}
-
-abbrev pub bool : Sort
-bool = sort head.Bool no_sorts
+use Rattle.term_store.specs.Term.{Term, Node, Terms, Cases, Note, Notes, term, lit, var, app, let_in, quant, match_on, ann, no_terms, more_terms, no_cases, more_cases, named, pattern, other, no_notes, more_notes, plain_sort}
 
 -- no name stands at two places
 pub record AreDistinct (names : List ℕ) : Type 0 where
@@ -36,7 +30,7 @@ sort_count (more_sorts t ts) = sort_count ts + 1
 
 -- a declared datatype with this number
 pub record IsDatatype (declared : List Declaration) (no_of : DeclNo) (params : ℕ) : Type 0 where
-  pub its : Datatype
+  pub its : PlainDatatype
   pub is_declared : Contains declared (datatype its)
   pub number_is : its.no ≡ no_of
   pub params_are : length its.params ≡ params
@@ -75,22 +69,22 @@ HasTheorySort (s ∷ ss) = IsTheorySort s ⊎ HasTheorySort ss
 -- Applications.
 
 -- the sort of a datatype with these values of its parameters
-abbrev pub datatype_sort : Datatype → List Sort → Sort
+abbrev pub datatype_sort : PlainDatatype → List Sort → Sort
 datatype_sort t values = sort (head.Data t.no t.name) (sorts values)
 
-abbrev pub field_sorts : Constructor → List Sort → List Sort
-field_sorts c values = map (λ (f : Field). inst values (stored.tree f.sort)) c.fields
+abbrev pub field_sorts : PlainConstructor → List Sort → List Sort
+field_sorts c values = map (λ (f : PlainField). inst values f.sort) c.fields
 
 -- the argument sorts and the result sort are those of the declaration, for these values of the
 -- parameters of its datatype
 abbrev pub HasRankAt : Declaration → List Sort → List Sort → Sort → Type 0
 HasRankAt (sort_symbol d n a) values args result = ⊥
-HasRankAt (function_symbol d n ss r) values args result = (args ≡ map stored.tree ss) × (result ≡ stored.tree r)
+HasRankAt (function_symbol d n ss r) values args result = (args ≡ ss) × (result ≡ r)
 HasRankAt (datatype t) values args result = ⊥
 HasRankAt (constructor_of t c) values args result = (length values ≡ length t.params) × (args ≡ field_sorts c values) × (result ≡ datatype_sort t values)
-HasRankAt (selector_of t c f) values args result = (length values ≡ length t.params) × (args ≡ datatype_sort t values ∷ []) × (result ≡ inst values (stored.tree f.sort))
-HasRankAt (definition d) values args result = (args ≡ map (λ v. stored.tree v.1) d.params) × (result ≡ stored.tree d.result)
-HasRankAt (term_name d n t) values args result = (args ≡ []) × (result ≡ stored.tree (sort_of t))
+HasRankAt (selector_of t c f) values args result = (length values ≡ length t.params) × (args ≡ datatype_sort t values ∷ []) × (result ≡ inst values f.sort)
+HasRankAt (definition d) values args result = (args ≡ map (λ v. v.1) d.params) × (result ≡ d.result)
+HasRankAt (term_name d n t) values args result = (args ≡ []) × (result ≡ plain_sort t)
 
 -- a tester of a constructor takes its datatype
 abbrev pub HasTesterRankAt : Declaration → List Sort → List Sort → Sort → Type 0
@@ -150,15 +144,15 @@ plain_sorts (more_terms t ts) = plain_sort t ∷ plain_sorts ts
 
 -- the sort is that of a declared datatype
 pub record IsDatatypeSort (declared : List Declaration) (s : Sort) : Type 0 where
-  pub its : Datatype
+  pub its : PlainDatatype
   pub is_declared : Contains declared (datatype its)
   pub values : List Sort
   pub sort_is : s ≡ datatype_sort its values
 
 -- the constructor is one of the datatype, and has as many fields as there are variables
 pub record Constructs (declared : List Declaration) (s : Sort) (no_of : DeclNo) (vars : List ℕ) : Type 0 where
-  pub its : Datatype
-  pub by : Constructor
+  pub its : PlainDatatype
+  pub by : PlainConstructor
   pub is_declared : Contains declared (constructor_of its by)
   pub number_is : by.no ≡ no_of
   pub values : List Sort
