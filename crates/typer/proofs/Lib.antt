@@ -24,3 +24,14 @@ pub mod TypedSteps
 pub mod SymbolSteps
 pub mod RankDecisions
 pub mod TermLaws
+pub mod SoundInstances
+pub mod SoundSorts
+pub mod SoundVariables
+pub mod NoNames
+pub mod SoundRanks
+pub mod CoreNames
+pub mod RankTables
+pub mod TheorySorts
+pub mod SoundTheories
+pub mod SoundApplications
+pub mod SoundTerms

@@ -121,7 +121,7 @@ module _ (f : FunEntry) (old : Binding) (schemas : List NumberedSort) (none : ol
 
 -- a schema without parameters is its only instance
 mutual
-  inst_none : (t : Sort) → inst [] t ≡ t
+  pub inst_none : (t : Sort) → inst [] t ≡ t
   inst_none (sort head.Bool ts) = ap (sort head.Bool) (insts_none ts)
   inst_none (sort head.Int ts) = ap (sort head.Int) (insts_none ts)
   inst_none (sort head.Array ts) = ap (sort head.Array) (insts_none ts)
@@ -134,7 +134,7 @@ mutual
   insts_none no_sorts = refl
   insts_none (more_sorts t ts) = ap (λ z. more_sorts z (insts [] ts)) (inst_none t) ∙ ap (more_sorts t) (insts_none ts)
 
-map_none : (ts : List Sort) → map (inst []) ts ≡ ts
+pub map_none : (ts : List Sort) → map (inst []) ts ≡ ts
 map_none [] = refl
 map_none (t ∷ ts) = ap (λ z. z ∷ map (inst []) ts) (inst_none t) ∙ ap (λ z. t ∷ z) (map_none ts)
 

@@ -27,7 +27,7 @@ same_name : (m n : ℕ) → is_name m n ≡ true → m ≡ n
 same_name m n e = search (rules, e)
 
 module _ {X : Type 0} (P : ℕ × X → Type 0) (name : ℕ) where
-  lookup_all : (xs : List (ℕ × X)) (v : X) → All P xs → lookup (is_name name) xs ≡ Some v → P (name, v)
+  pub lookup_all : (xs : List (ℕ × X)) (v : X) → All P xs → lookup (is_name name) xs ≡ Some v → P (name, v)
   lookup_all [] v h e = cc
   lookup_all (x ∷ xs) v h e = elim (cases_Bool (is_name name x.0)) [
     | inl same ↦ (let s : x.1 ≡ v = cc in subst (λ z. P (name, z)) s (subst (λ n. P (n, x.1)) (sym (same_name name x.0 same)) (h zero x (omega arith))))

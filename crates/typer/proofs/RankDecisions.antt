@@ -190,7 +190,7 @@ insts_sorts values (s ∷ ss) = ap (more_sorts (inst values s)) (insts_sorts val
 takes_made : (values ss ts : List Sort) → insts values (sorts ss) ≡ sorts ts → map (inst values) ss ≡ ts
 takes_made values ss ts e = sorts_same (map (inst values) ss) ts (sym (insts_sorts values ss) ∙ e)
 
-made_takes : (values ss ts : List Sort) → map (inst values) ss ≡ ts → insts values (sorts ss) ≡ sorts ts
+pub made_takes : (values ss ts : List Sort) → map (inst values) ss ≡ ts → insts values (sorts ss) ≡ sorts ts
 made_takes values ss ts e = insts_sorts values ss ∙ ap sorts e
 
 pub instance_decided : (f : FunDeclaration) (args : List Sort) → ((t : Sort) × HasInstance f args t) ⊎ (((t : Sort) × HasInstance f args t) → ⊥)

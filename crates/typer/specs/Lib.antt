@@ -9,3 +9,4 @@ pub mod LiveRanks
 pub mod FunctionSymbols
 pub mod TermRules
 pub mod Typed
+pub mod Soundness

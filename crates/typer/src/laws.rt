@@ -1,14 +1,18 @@
 //! The laws of the rules on sorts and terms.
-ghost use Rattle.std.specs.Prelude.{ℕ, ◌≡◌, ◌⊎◌, List};
+ghost use Rattle.std.specs.Prelude.{ℕ, ◌≡◌, ◌⊎◌, List, [], length};
 ghost use Rattle.lex_core.specs.declared.place.Place.{Place};
 ghost use Rattle.sig_table.specs.declared.theories.Theories.{Theories};
 ghost use Rattle.sort_store.specs.Tree.{Sort};
+ghost use Rattle.judgement.specs.Judging.{well_sorted};
 ghost use Rattle.term_grammar.specs.Syntax as syntax;
+ghost use Rattle.term_store.specs.Declarations.{Declaration, names_in};
+ghost use Rattle.term_store.specs.SoundTerms.{IsSoundSort, IsSoundTerm, AreSoundVars, bound_also};
 ghost use Rattle.typer.specs.Declarations.{Declarations};
-ghost use Rattle.typer.specs.SortRules.{SortOf, SortFault};
+ghost use Rattle.typer.specs.SortRules.{SortOf, SortFault, judge_sort};
+ghost use Rattle.typer.specs.Soundness.{HasSoundSorts, IsSoundSignature};
 ghost use Rattle.term_store.specs.Term.{PlainTerm};
 ghost use Rattle.typer.specs.FunctionSymbols.{Signature};
-ghost use Rattle.typer.specs.TermRules.{Elaborates, TermFault};
+ghost use Rattle.typer.specs.TermRules.{Elaborates, TermFault, judge_term};
 
 /// The laws of the rules on sorts: under any texts, declarations, theories and parameters a raw sort has
 /// one sort or one fault, and never both. It computes nothing: its contract states them.
@@ -34,4 +38,18 @@ pub fn term_laws()
         → Elaborates signature vars raw t → Elaborates signature vars raw u → t ≡ u }
     ensures fault_once { (signature : Signature) (vars : List (ℕ × Sort)) (raw : syntax.Term) (p q : Place)
         → TermFault signature vars raw p → TermFault signature vars raw q → p ≡ q }
+{}
+
+/// The laws of soundness: under the declarations of a script, where the live sort symbols are sound, each
+/// sort that the rules give is sound, and where the signature and the variables are, each term is. A term
+/// names no term. It computes nothing: its contract states them.
+pub fn soundness_laws()
+    ensures sorts { (script : List Declaration) (texts : List (List ℕ)) (declarations : Declarations) (theories : Theories) (params : List ℕ)
+        → HasSoundSorts script declarations → (raw : syntax.Sort) (t : Sort) (before after : List ℕ)
+        → judge_sort texts declarations theories params raw before (well_sorted t after) → IsSoundSort script (length params) t }
+    ensures terms { (script : List Declaration) (signature : Signature) (vars : List (ℕ × Sort))
+        → IsSoundSignature script signature → AreSoundVars script vars → (raw : syntax.Term) (t : PlainTerm) (before after : List ℕ)
+        → judge_term signature vars raw before (well_sorted t after) → IsSoundTerm script (bound_also vars []) t }
+    ensures names { (signature : Signature) (vars : List (ℕ × Sort)) (raw : syntax.Term) (t : PlainTerm) (before after : List ℕ)
+        → judge_term signature vars raw before (well_sorted t after) → names_in t ≡ [] }
 {}

@@ -18,7 +18,7 @@ mod world;
 
 pub use error::TyError;
 pub use in_use::{is_fun_in_use, is_sort_in_use};
-pub use laws::{sort_laws, term_laws};
+pub use laws::{sort_laws, soundness_laws, term_laws};
 pub use numeral::numeral_value;
 pub use sorts::{type_sort, type_sorts};
 pub use symbol::is_theory_sort;

@@ -2,6 +2,7 @@
 ghost use Rattle.std.specs.Prelude.{◌≡◌, [], IfOk, false};
 ghost use Rattle.lex_core.specs.NameTable.{fixed_texts};
 ghost use Rattle.scope_stack.specs.Environment.{empty};
+ghost use Rattle.term_store.specs.Script.{empty_script};
 ghost use Rattle.typer.specs.Ready.{IsReady};
 
 use io_core::NoMemory;
@@ -10,13 +11,14 @@ use scope_stack::Scopes;
 use sig_table::Theories;
 use sort_store::SortStore;
 use std::alloc::Global;
-use term_store::TermStore;
+use term_store::{Script, TermStore};
 
-/// What the sorting rules look at: the live declarations, the terms and sorts made so far, the names
-/// and the theories of the logic. What holds sorts stands above the store that made them, so that no
-/// drop runs deep.
+/// What the sorting rules look at: the accepted commands with what they define, the live declarations,
+/// the terms and sorts made so far, the names and the theories of the logic. What holds terms and sorts
+/// stands above the store that made them, so that no drop runs deep.
 #[derive(Drop)]
 pub struct World {
+    pub script: Script,
     pub scopes: Scopes,
     pub terms: TermStore,
     pub sorts: SortStore,
@@ -26,9 +28,10 @@ pub struct World {
 }
 
 impl World {
-    /// A world of no declarations, and of Core alone. The only error is that memory runs out.
+    /// A world of no commands and no declarations, and of Core alone. The only error is that memory runs out.
     pub fn new(alloc: Global) -> Result<World, NoMemory>
         ensures names { IfOk result (λ w. w.names ≡ fixed_texts) }
+        ensures script { IfOk result (λ w. w.script ≡ empty_script) }
         ensures sorts { IfOk result (λ w. w.sorts ≡ []) }
         ensures terms { IfOk result (λ w. w.terms ≡ []) }
         ensures scopes { IfOk result (λ w. w.scopes ≡ empty) }
@@ -42,6 +45,7 @@ impl World {
         };
         let names = Names::new(alloc)?;
         Ok(World {
+            script: Script::new(alloc),
             scopes: Scopes::new(alloc),
             terms: TermStore::new(alloc),
             sorts: SortStore::new(alloc),

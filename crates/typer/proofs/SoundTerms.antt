@@ -1,0 +1,78 @@
+-- What a raw term is well sorted with is sound where the signature and the variables are.
+use Rattle.std.proofs.Common.{◌≡◌, ℕ, ◌==◌, Bool, true, false, if◌then◌else◌, List, [], ◌∷◌, Option, Some, None, refl, sym, subst, ◌∙◌}
+use Rattle.std.specs.Option.{IfSome}
+use Rattle.judgement.specs.Judging.{well_sorted}
+use Rattle.term_grammar.specs.Syntax as syntax
+use Rattle.term_grammar.specs.Syntax.{Identifier, symbol, indexed, Qualified, unqualified, qualified, qualified_at, constant, qualified_term, application, let_in, for_all, there_exists, match_with, annotated, Terms, no_terms, with_term}
+use Rattle.sort_store.specs.Tree.{Sort}
+use Rattle.term_store.specs.Term.{PlainTerm, plain_terms}
+use Rattle.term_store.specs.Declarations.{Declaration}
+use Rattle.term_store.specs.SoundTerms.{Bound, bound_also, IsSoundSort, IsTheorySort, AreSoundVars, IsSoundTerm, AreSoundTerms}
+use Rattle.theory_core.specs.IntsRanks.{int}
+use Rattle.typer.specs.FunctionSymbols.{Signature}
+use Rattle.typer.specs.SortSymbols.{or_else}
+use Rattle.typer.specs.TermRules.{bound, identifier_of, judge_symbol, judge_application, judge_asked, judge_term, judge_terms}
+use Rattle.typer.specs.Soundness.{IsSoundSignature}
+use Rattle.typer.proofs.SoundSorts.{sound_sort}
+use Rattle.typer.proofs.SoundVariables.{same_bound}
+use Rattle.typer.proofs.SoundApplications.{head_sound, indexed_head_sound}
+
+module _ (script : List Declaration) where
+  abbrev IsSoundIfSome : Option Sort → Type 0
+  IsSoundIfSome o = IfSome o (IsSoundSort script 0)
+
+  sound_or_else : (a b : Option Sort) → IsSoundIfSome a → IsSoundIfSome b → IsSoundIfSome (or_else a b)
+  sound_or_else (Some s) b h k = h
+  sound_or_else None b h k = k
+
+  sound_if : (b : Bool) (s : Sort) → IsSoundSort script 0 s → IsSoundIfSome (if b then Some s else None)
+  sound_if true s h = h
+  sound_if false s h = tt
+
+  bound_sound : (vars : List (ℕ × Sort)) (name : ℕ) → AreSoundVars script vars → IsSoundIfSome (bound vars name)
+  bound_sound [] name h = tt
+  bound_sound (v ∷ vars) name h = sound_or_else (bound vars name) _ (bound_sound vars name h.1) (sound_if (v.0 == name) v.1 h.0)
+
+  literal_sound : (b : Bool) (s : Sort) → (if b then Some int else None) ≡ Some s → IsSoundSort script 0 s × IsTheorySort s
+  literal_sound true s e = let same : int ≡ s = cc in subst (λ z. IsSoundSort script 0 z × IsTheorySort z) same ((tt, tt), tt)
+  literal_sound false s e = cc
+
+module _ (script : List Declaration) (signature : Signature) (vars : List (ℕ × Sort)) (sound : IsSoundSignature script signature) (sound_vars : AreSoundVars script vars) where
+  abbrev outer : Bound
+  outer = bound_also vars []
+
+  abbrev IsSoundHere : PlainTerm → Type 0
+  IsSoundHere u = IsSoundTerm script outer u
+
+  asked_sound : (q : Qualified) (asked : Option Sort) (before after : List ℕ) → judge_asked signature q before (well_sorted asked after) → IsSoundIfSome script asked
+  asked_sound (unqualified i) asked before after (made, same) = subst (IsSoundIfSome script) (sym made) tt
+  asked_sound (qualified _ i s) asked before after (t, between, h, (made, same)) =
+      subst (IsSoundIfSome script) (sym made) (sound_sort script signature.texts signature.declarations signature.theories [] sound.sorts s t before between h)
+
+  symbol_sound : (o : Option Sort) (at : ℕ) (args : List PlainTerm) (asked : Option Sort) (name : ℕ) (u : PlainTerm) (before after : List ℕ) → bound vars name ≡ o → IsSoundIfSome script o
+      → AreSoundTerms script outer (plain_terms args) → IsSoundIfSome script asked → judge_symbol signature o at args asked name before (well_sorted u after) → IsSoundHere u
+  symbol_sound (Some s) at args asked name u before after e h a k (x, between, bare, (made, same)) = subst IsSoundHere (sym made) (h, same_bound vars name ∙ e)
+  symbol_sound None at args asked name u before after e h a k (head, between, j, (made, same)) = subst IsSoundHere (sym made) (head_sound script signature sound outer at args asked a k name head before between j)
+
+  application_sound : (i : Identifier) (at : ℕ) (args : List PlainTerm) (asked : Option Sort) (u : PlainTerm) (before after : List ℕ) → AreSoundTerms script outer (plain_terms args) → IsSoundIfSome script asked
+      → judge_application signature vars at args asked i before (well_sorted u after) → IsSoundHere u
+  application_sound (symbol t) at args asked u before after a k h = symbol_sound (bound vars t.name) at args asked t.name u before after refl (bound_sound script vars t.name sound_vars) a k h
+  application_sound (indexed _ t is) at args asked u before after a k (head, between, j, (made, same)) =
+      subst IsSoundHere (sym made) (indexed_head_sound script signature sound outer at args asked a k t.name is head before between j)
+
+  mutual
+    pub sound_term : (raw : syntax.Term) (u : PlainTerm) (before after : List ℕ) → judge_term signature vars raw before (well_sorted u after) → IsSoundTerm script (bound_also vars []) u
+    sound_term (constant t) u before after (s, between, (e, f), (made, same)) = subst IsSoundHere (sym made) (literal_sound script _ s e)
+    sound_term (qualified_term q) u before after (asked, between, h, k) = application_sound (identifier_of q) (qualified_at q) [] asked u between after tt (asked_sound q asked before between h) k
+    sound_term (application at q ts) u before after (asked, between, h, (args, later, k, l)) =
+        application_sound (identifier_of q) at args asked u later after (sound_terms ts args between later k) (asked_sound q asked before between h) l
+    sound_term (let_in at bs b) u before after h = absurd h
+    sound_term (for_all at vs b) u before after h = absurd h
+    sound_term (there_exists at vs b) u before after h = absurd h
+    sound_term (match_with at b cs) u before after h = absurd h
+    sound_term (annotated at b ns) u before after h = absurd h
+
+    pub sound_terms : (ts : Terms) (us : List PlainTerm) (before after : List ℕ) → judge_terms signature vars ts before (well_sorted us after) → AreSoundTerms script (bound_also vars []) (plain_terms us)
+    sound_terms no_terms us before after (made, same) = subst (λ z. AreSoundTerms script outer (plain_terms z)) (sym made) tt
+    sound_terms (with_term t ts) us before after (u, between, h, (rest, later, k, (made, same))) =
+        subst (λ z. AreSoundTerms script outer (plain_terms z)) (sym made) (sound_term t u before between h, sound_terms ts rest between later k)
