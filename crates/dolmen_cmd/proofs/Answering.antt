@@ -36,7 +36,7 @@ done input out err verdict v is_done text flush line = let accepted = v.counted 
   written = (
     Check,
     accepted.accepts.commands,
-    record { asks = accepted.asks; whole = accepted.whole; accepts = accepted.accepts.sofar },
+    record { asks = accepted.asks; whole = accepted.whole; accepts = accepted.accepts.accepts },
     subst (λ (n : ℕ). Appends out.before out.after (ok_line n)) accepted.accepts.counted text,
     flush,
     line,

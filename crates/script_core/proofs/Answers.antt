@@ -6,7 +6,7 @@ use Rattle.sig_table.specs.declared.code.Code.{Code}
 use Rattle.sig_table.specs.declared.code.Code.TheVariants.{UnclosedList}
 use Rattle.sexp_core.specs.Reading.{IsUnclosed, IsUnfinished}
 use Rattle.sexp_core.specs.Sexp.{FlatToken, Opening, Sexp}
-use Rattle.cmd_grammar.specs.Commands.{Command}
+use Rattle.term_store.specs.Command.{PlainCommand}
 use Rattle.script_core.specs.declared.refusal.Refusal.{Refusal}
 use Rattle.script_core.specs.Acceptance.{IsFaultless, IsFirstFault, Judged, Refuses, Sofar, SomeAnswer, TextFault, place_of}
 use Rattle.script_core.specs.Environment.{start}
@@ -28,7 +28,7 @@ judged_once bytes ended f g a b r s x y =
     let lists = lists_once y.tokens x.lists y.lists a b (subst (λ (ts : List Token). HasLists ts x.lists a) tokens.0 x.has_lists) y.has_lists in
     record { fault = tokens.1; rest = lists.1; run = run_once y.lists start r s (subst (λ (ls : List (Sexp Token)). Runs start ls r) lists.0 x.runs) y.runs }
 
-pub sofar_unique : (bytes : List ℕ) (ended : Bool) (cs ds : List Command) → Sofar bytes ended cs → Sofar bytes ended ds → cs ≡ ds
+pub sofar_unique : (bytes : List ℕ) (ended : Bool) (cs ds : List PlainCommand) → Sofar bytes ended cs → Sofar bytes ended ds → cs ≡ ds
 sofar_unique bytes ended cs ds x y =
     let same = judged_once bytes ended x.fault y.fault x.rest y.rest x.run y.run x.judged y.judged in
     x.accepted ∙ (ap (λ (r : Run). r.commands) same.run ∙ sym y.accepted)
@@ -44,8 +44,8 @@ moved : (P : Option Place → ListsEnd → Cause → Type 0) (f g : Option Place
 moved P f g a b r s same h =
     subst (λ (x : Option Place). P x b s.cause) same.fault (subst (λ (x : ListsEnd). P f x s.cause) same.rest (subst (λ (x : Run). P f a x.cause) same.run h))
 
-pub sofar_refuses : (bytes : List ℕ) (ended : Bool) (cs : List Command) (refusal : Refusal) → Sofar bytes ended cs → Refuses bytes ended refusal → ⊥
-sofar_refuses bytes ended cs refusal x y =
+pub sofar_refuses : (bytes : List ℕ) (ended : Bool) (cs ds : List PlainCommand) (refusal : Refusal) → Sofar bytes ended cs → Refuses bytes ended ds refusal → ⊥
+sofar_refuses bytes ended cs ds refusal x y =
     let same = judged_once bytes ended x.fault y.fault x.rest y.rest x.run y.run x.judged y.judged in
     faultless_first ended y.fault y.rest y.run.cause (place_of refusal)
     (moved (λ f r c. IsFaultless ended f r c) x.fault y.fault x.rest y.rest x.run y.run same x.faultless) y.first_fault
@@ -73,12 +73,15 @@ same_parts a b c p =
     let two : record a { command = b.command } ≡ record a { command = b.command; at = b.at } = ap (λ (n : ℕ). record a { command = b.command; at = n }) at in
     one ∙ (two ∙ ap (λ (k : Code). record b { rule = k }) rule)
 
-pub refuses_unique : (bytes : List ℕ) (ended : Bool) (a b : Refusal) → Refuses bytes ended a → Refuses bytes ended b → a ≡ b
-refuses_unique bytes ended a b x y =
+pub refuses_unique : (bytes : List ℕ) (ended : Bool) (cs ds : List PlainCommand) (a b : Refusal) → Refuses bytes ended cs a → Refuses bytes ended ds b → (cs ≡ ds) × (a ≡ b)
+refuses_unique bytes ended cs ds a b x y =
     let same = judged_once bytes ended x.fault y.fault x.rest y.rest x.run y.run x.judged y.judged in
-    same_parts a b (x.number ∙ (ap (λ (r : Run). length r.commands + 1) same.run ∙ sym y.number))
-    (first_fault_once ended y.fault y.rest y.run.cause (place_of a) (place_of b)
-    (moved (λ f r c. IsFirstFault ended f r c (place_of a)) x.fault y.fault x.rest y.rest x.run y.run same x.first_fault) y.first_fault)
+    let commands : cs ≡ ds = x.accepted ∙ (ap (λ (r : Run). r.commands) same.run ∙ sym y.accepted) in (
+      commands,
+      same_parts a b (x.number ∙ (ap (λ (l : List PlainCommand). length l + 1) commands ∙ sym y.number))
+          (first_fault_once ended y.fault y.rest y.run.cause (place_of a) (place_of b)
+          (moved (λ f r c. IsFirstFault ended f r c (place_of a)) x.fault y.fault x.rest y.rest x.run y.run same x.first_fault) y.first_fault),
+    )
 
 -- the text after the commands shows a fault, or it shows none
 text_cases : (ended : Bool) (fault : Option Place) (rest : ListsEnd) → ((u : List (FlatToken Token)) → rest ≡ Unfinished u → IsUnfinished u)
@@ -111,9 +114,12 @@ some_answer bytes ended =
     let r = run_some l.more start in
     let judged : Judged bytes ended t.fault l.rest r.0 = record { tokens = t.later; lists = l.more; has_tokens = t.has_tokens; has_lists = l.has_lists; runs = r.1 } in
     elim (fault_cases ended t.fault l.rest r.0.cause (unfinished_beginning t.later l.more l.rest l.has_lists)) [
-      | inl found ↦ inr (
-        record { command = length r.0.commands + 1; at = found.0.at; rule = found.0.code },
-        record { fault = t.fault; rest = l.rest; run = r.0; judged = judged; number = refl; first_fault = found.1 },
+      | inl found ↦ (
+        r.0.commands,
+        inr (
+          record { command = length r.0.commands + 1; at = found.0.at; rule = found.0.code },
+          record { fault = t.fault; rest = l.rest; run = r.0; judged = judged; accepted = refl; number = refl; first_fault = found.1 },
+        ),
       )
-      | inr fine ↦ inl (r.0.commands, record { fault = t.fault; rest = l.rest; run = r.0; judged = judged; accepted = refl; faultless = fine })
+      | inr fine ↦ (r.0.commands, inl (record { fault = t.fault; rest = l.rest; run = r.0; judged = judged; accepted = refl; faultless = fine }))
     ]

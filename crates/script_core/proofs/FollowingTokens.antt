@@ -1,5 +1,6 @@
 -- What one more token makes of a checker that has taken some tokens.
-use Rattle.std.proofs.Common.{◌≡◌, ℕ, ◌+◌, ◌<◌, ◌≤◌, Bool, false, List, [], ◌∷◌, ◌++◌, length, Option, None, refl, sym, ◌∙◌, ap, subst, length-append, inl, inr, arith}
+use Rattle.std.proofs.Common.{◌≡◌, ℕ, ◌+◌, ◌<◌, ◌≤◌, Bool, true, false, List, [], ◌∷◌, ◌++◌, length, Option, None, refl, sym, ◌∙◌, ap, subst, inl, inr, arith}
+use Rattle.std.proofs.lemmas.Bool.{cases_Bool}
 use Rattle.std.proofs.lemmas.List.{append-nil, map-append}
 use Rattle.lex_core.proofs.CallClauses.{number_kept, token_kept}
 use Rattle.lex_core.specs.LexerCalls.{ExtendsTable, HasRead}
@@ -19,22 +20,24 @@ use Rattle.sexp_core.specs.Reading.{IsList, IsUnfinished, Reads, TreeFault}
 use Rattle.sexp_core.specs.Sexp.{FlatToken, Opening, Closing, Word, Sexp, atom, list, flat, map_flat}
 use Rattle.sexp_core.specs.Tokens.{flat_of, flat_tok, flat_token, flat_tokens}
 use Rattle.judgement.specs.Judging.{Outcome, ill_sorted, well_sorted}
-use Rattle.cmd_grammar.specs.Commands.{Command}
+use Rattle.term_store.specs.Command.{PlainCommand}
+use Rattle.term_store.specs.Script.{Kept, commands_of, empty_script}
 use Rattle.scope_stack.specs.Environment.{empty}
 use Rattle.scope_stack.specs.Environment.{Environment as Scopes}
 use Rattle.typer.proofs.ReadyCalls.{ready_with_names}
 use Rattle.typer.specs.Declarations.{declarations_of, no_declarations}
 use Rattle.script_core.specs.declared.checker.Checker.{Checker}
+use Rattle.script_core.specs.declared.refusal.Progress.{Progress}
 use Rattle.script_core.specs.declared.refusal.Progress.TheVariants as progress
 use Rattle.script_core.specs.declared.refusal.Refusal.{Refusal}
 use Rattle.script_core.specs.Acceptance.{place_of}
-use Rattle.script_core.specs.Checking.{Awaits, Exits, Follows, HasTaken, HasTokensOf, IsReadyScope, TakesTree, TokenBreaks, environment_of, texts_of}
+use Rattle.script_core.specs.Checking.{Awaits, Exits, Follows, HasTaken, HasTokensOf, IsReadyScope, TakesTree, TokenBreaks, accepted_by, environment_of, progress_of, texts_of}
 use Rattle.script_core.specs.Environment.{Environment, core_alone, start}
 use Rattle.script_core.specs.Interned.{AreInterned, sexp_of}
 use Rattle.script_core.specs.Numbering.{numbered_sexp, table_after}
-use Rattle.script_core.specs.Steps.{all_taken, exited, judge_list, judge_tree}
+use Rattle.script_core.specs.Steps.{Run, Runs, exited, is_exit, judge_list, judge_tree}
 use Rattle.script_core.proofs.NameTables.{numbered_tree, table_append}
-use Rattle.script_core.proofs.Running.{next_exits, next_taken}
+use Rattle.script_core.proofs.Running.{all_of, next_exits, next_taken}
 use Rattle.script_core.proofs.TextLists.{one_token}
 
 told_token : (texts : List (List ℕ)) (tok : Tok) → map_flat (token_of texts) (flat_tok tok) ≡ flat_token (token_of texts tok)
@@ -92,16 +95,15 @@ follows_inside tokens c tok new w named held unfinished fine =
     (reads_more (flat_tokens tokens) f.lists (texts_of c.scope.world.names u) (flat_token (token_of c.scope.world.names tok)) f.reads (λ rule h. fine rule (fault_numbers c.scope.world.names u tok rule h)) is_unfinished) in
     record {
       lists = f.lists;
-      commands = f.commands;
       names = f.names;
       reads = subst (λ (s : State). Reads (flat_tokens (tokens ++ token_of c.scope.world.names tok ∷ [])) f.lists (texts_of c.scope.world.names s.0)) (sym held)
           (subst (λ (fs : List (FlatToken Token)). Reads (flat_tokens (tokens ++ token_of c.scope.world.names tok ∷ [])) f.lists fs) (sym last) reads);
       no_error = ap (λ (s : State). s.1) held;
       runs = f.runs;
-      counted = f.counted;
       interned = subst (λ (s : State). AreInterned c.scope.world.names s.0) (sym held) (interned_last c.scope.world.names u tok f.interned named);
       table = subst (λ (s : State). c.scope.world.names ≡ table_after f.names (texts_of c.scope.world.names s.0)) (sym held)
           (next_table w.known tokens c (token_of c.scope.world.names tok) f w.names ∙ ap (λ (fs : List (FlatToken Token)). table_after f.names fs) (sym last));
+      undefined = f.undefined;
       stands = f.stands;
     }
 
@@ -114,7 +116,7 @@ told_list : (texts : List (List ℕ)) (u : List (FlatToken Tok)) (tok : Tok) (t 
 told_list texts u tok t e = flat-map_sexp (token_of texts) t ∙ ap (texts_of texts) e ∙ texts_more texts u tok
 
 -- what is judged of a tree with numbers is judged of its list
-judged_told : (known : List (List ℕ)) (tokens : List Token) (c : Checker) (tok : Tok) (t : Sexp Tok) (o : Outcome (Command × Environment)) (f : Follows known tokens c)
+judged_told : (known : List (List ℕ)) (tokens : List Token) (c : Checker) (tok : Tok) (t : Sexp Tok) (o : Outcome (PlainCommand × Environment)) (f : Follows known tokens c)
     → c.scope.world.names ≡ table_after known (flat_token (token_of c.scope.world.names tok) ∷ []) → IsNameTable c.scope.world.names → tok.name < length c.scope.world.names → flat t ≡ c.builder.0 ++ flat_tok tok ∷ []
     → judge_tree (environment_of c.scope.world.names c.scope) t [] o → judge_list (environment_of f.names c.scope) (sexp_of c.scope.world.names t) [] o
 judged_told known tokens c tok t o f awaited table named e judged =
@@ -133,79 +135,107 @@ reads_told known tokens c tok t f is_list e =
     (reads_list (flat_tokens tokens) f.lists (texts_of c.scope.world.names c.builder.0) (flat_token (token_of c.scope.world.names tok)) (sexp_of c.scope.world.names t) f.reads (is_list_told c.scope.world.names t is_list)
     (told_list c.scope.world.names c.builder.0 tok t e))
 
-one_more : (commands : List Command) (command : Command) (old new : ℕ) → old ≡ length commands → new ≡ old + 1 → new ≡ length (commands ++ command ∷ [])
-one_more commands command old new counted more = omega (arith, counted, more, length-append commands (command ∷ []))
+same_progress : (b : Bool) → progress.More ≡ progress_of b → b ≡ false
+same_progress true e = cc
+same_progress false e = refl
+
+same_end : (b : Bool) → progress.Ended ≡ progress_of b → b ≡ true
+same_end true e = refl
+same_end false e = cc
 
 -- the next token completes a list, which is taken
 pub follows_list : (tokens : List Token) (c n : Checker) (tok : Tok) (t : Sexp Tok) → Awaits tokens (token_of c.scope.world.names tok ∷ []) c → IsNameTable c.scope.world.names → tok.name < length c.scope.world.names
     → IsList t → flat t ≡ c.builder.0 ++ flat_tok tok ∷ [] → n.builder ≡ ([], None) → n.scope.world.names ≡ c.scope.world.names
-    → TakesTree (environment_of c.scope.world.names c.scope) t progress.More (environment_of c.scope.world.names n.scope) → n.count ≡ c.count + 1 → IsReadyScope n.scope
+    → TakesTree c.scope t progress.More n.scope → IsReadyScope n.scope
     → HasTokensOf (tokens ++ token_of c.scope.world.names tok ∷ []) n
-follows_list tokens c n tok t w table named is_list e emptied same (command, declared, judged, goes) counted stands =
+follows_list tokens c n tok t w table named is_list e emptied same takes stands =
     let f = w.follows in
-    let steps = judged_told w.known tokens c tok t (well_sorted (command, environment_of c.scope.world.names n.scope) declared) f w.names table named e judged in
-    let runs = next_taken f.lists (sexp_of c.scope.world.names t) start (environment_of f.names c.scope) (environment_of c.scope.world.names n.scope) f.commands command f.runs (declared, steps) goes in
+    let after = environment_of c.scope.world.names n.scope in
+    let steps = judged_told w.known tokens c tok t (well_sorted (takes.command, after) takes.declared) f w.names table named e takes.judged in
+    let runs = next_taken f.lists (sexp_of c.scope.world.names t) start (environment_of f.names c.scope) after (accepted_by c) takes.command f.runs (takes.declared, steps) (same_progress _ takes.goes_on) in
     record {
       lists = f.lists ++ sexp_of c.scope.world.names t ∷ [];
-      commands = f.commands ++ command ∷ [];
       names = c.scope.world.names;
       reads = subst (λ (s : State). Reads (flat_tokens (tokens ++ token_of c.scope.world.names tok ∷ [])) (f.lists ++ sexp_of c.scope.world.names t ∷ []) (texts_of n.scope.world.names s.0)) (sym emptied)
           (reads_told w.known tokens c tok t f is_list e);
       no_error = ap (λ (s : State). s.1) emptied;
-      runs = runs;
-      counted = one_more f.commands command c.count n.count f.counted counted;
+      runs = subst (λ (cs : List PlainCommand). Runs start (f.lists ++ sexp_of c.scope.world.names t ∷ []) (all_of cs after)) (sym takes.put_last) runs;
       interned = subst (λ (s : State). AreInterned n.scope.world.names s.0) (sym emptied) tt;
       table = subst (λ (s : State). n.scope.world.names ≡ table_after c.scope.world.names (texts_of n.scope.world.names s.0)) (sym emptied) same;
+      undefined = takes.defines_nothing ∙ f.undefined;
       stands = stands;
     }
+
+-- the lists that a command among them is the last of, taken one after the other
+pub list_runs : (tokens : List Token) (c n : Checker) (tok : Tok) (t : Sexp Tok) (goes : Progress) → Awaits tokens (token_of c.scope.world.names tok ∷ []) c → IsNameTable c.scope.world.names → tok.name < length c.scope.world.names
+    → flat t ≡ c.builder.0 ++ flat_tok tok ∷ [] → TakesTree c.scope t goes n.scope
+    → (lists : List (Sexp Token)) × (run : Run) × Runs start lists run × (accepted_by n ≡ run.commands)
+list_runs tokens c n tok t goes w table named e takes =
+    let f = w.follows in
+    let after = environment_of c.scope.world.names n.scope in
+    let lists = f.lists ++ sexp_of c.scope.world.names t ∷ [] in
+    let steps = judged_told w.known tokens c tok t (well_sorted (takes.command, after) takes.declared) f w.names table named e takes.judged in
+    elim (cases_Bool (is_exit takes.command)) [
+      | inl ends ↦ (
+        lists,
+        record { commands = accepted_by c ++ takes.command ∷ []; env = after; cause = exited },
+        next_exits f.lists (sexp_of c.scope.world.names t) start (environment_of f.names c.scope) after (accepted_by c) takes.command f.runs (takes.declared, steps) ends,
+        takes.put_last,
+      )
+      | inr on ↦ (
+        lists,
+        all_of (accepted_by c ++ takes.command ∷ []) after,
+        next_taken f.lists (sexp_of c.scope.world.names t) start (environment_of f.names c.scope) after (accepted_by c) takes.command f.runs (takes.declared, steps) on,
+        takes.put_last,
+      )
+    ]
 
 -- the next token completes an `exit`
 pub exits_list : (tokens : List Token) (c n : Checker) (tok : Tok) (t : Sexp Tok) → Awaits tokens (token_of c.scope.world.names tok ∷ []) c → IsNameTable c.scope.world.names → tok.name < length c.scope.world.names
     → IsList t → flat t ≡ c.builder.0 ++ flat_tok tok ∷ []
-    → TakesTree (environment_of c.scope.world.names c.scope) t progress.Ended (environment_of c.scope.world.names n.scope) → n.count ≡ c.count + 1
-    → Exits (tokens ++ token_of c.scope.world.names tok ∷ []) n.count
-exits_list tokens c n tok t w table named is_list e (command, declared, judged, exits) counted =
+    → TakesTree c.scope t progress.Ended n.scope
+    → Exits (tokens ++ token_of c.scope.world.names tok ∷ []) (accepted_by n)
+exits_list tokens c n tok t w table named is_list e takes =
     let f = w.follows in
-    let steps = judged_told w.known tokens c tok t (well_sorted (command, environment_of c.scope.world.names n.scope) declared) f w.names table named e judged in
-    let runs = next_exits f.lists (sexp_of c.scope.world.names t) start (environment_of f.names c.scope) (environment_of c.scope.world.names n.scope) f.commands command f.runs (declared, steps) exits in
+    let after = environment_of c.scope.world.names n.scope in
+    let steps = judged_told w.known tokens c tok t (well_sorted (takes.command, after) takes.declared) f w.names table named e takes.judged in
+    let runs = next_exits f.lists (sexp_of c.scope.world.names t) start (environment_of f.names c.scope) after (accepted_by c) takes.command f.runs (takes.declared, steps) (same_end _ takes.goes_on) in
     record {
       front = tokens ++ token_of c.scope.world.names tok ∷ [];
       back = [];
       spelled = sym (append-nil (tokens ++ token_of c.scope.world.names tok ∷ []));
       lists = f.lists ++ sexp_of c.scope.world.names t ∷ [];
       reads = reads_told w.known tokens c tok t f is_list e;
-      run = record { commands = f.commands ++ command ∷ []; env = environment_of c.scope.world.names n.scope; cause = exited };
+      run = record { commands = accepted_by c ++ takes.command ∷ []; env = after; cause = exited };
       runs = runs;
       ends = refl;
-      counted = one_more f.commands command c.count n.count f.counted counted;
+      accepted = takes.put_last;
     }
 
 -- the next token breaks a rule of lists
 pub breaks_lists : (tokens : List Token) (c : Checker) (tok : Tok) (code : Code) (at : ℕ) → Awaits tokens (token_of c.scope.world.names tok ∷ []) c → TreeFault c.builder.0 (flat_tok tok) code → at ≡ tok.at
-    → TokenBreaks tokens (token_of c.scope.world.names tok) (record { command = c.count + 1; at = at; rule = code })
+    → TokenBreaks tokens (token_of c.scope.world.names tok) (accepted_by c) (record { command = length (accepted_by c) + 1; at = at; rule = code })
 breaks_lists tokens c tok code at w fault place = record {
   lists = w.follows.lists;
-  commands = w.follows.commands;
   env = environment_of w.follows.names c.scope;
   unfinished = texts_of c.scope.world.names c.builder.0;
   reads = w.follows.reads;
   runs = w.follows.runs;
-  number = ap (λ (n : ℕ). n + 1) w.follows.counted;
+  number = refl;
   fault = inl (fault_told c.scope.world.names c.builder.0 tok code fault, place);
 }
 
 -- the next token completes a list that breaks a rule
 pub breaks_command : (tokens : List Token) (c : Checker) (tok : Tok) (t : Sexp Tok) (refusal : Refusal) → Awaits tokens (token_of c.scope.world.names tok ∷ []) c → IsNameTable c.scope.world.names → tok.name < length c.scope.world.names
     → IsList t → flat t ≡ c.builder.0 ++ flat_tok tok ∷ []
-    → judge_tree (environment_of c.scope.world.names c.scope) t [] (ill_sorted (place_of refusal)) → refusal.command ≡ c.count + 1 → TokenBreaks tokens (token_of c.scope.world.names tok) refusal
+    → judge_tree (environment_of c.scope.world.names c.scope) t [] (ill_sorted (place_of refusal)) → refusal.command ≡ length (accepted_by c) + 1 → TokenBreaks tokens (token_of c.scope.world.names tok) (accepted_by c) refusal
 breaks_command tokens c tok t refusal w table named is_list e fault number = record {
   lists = w.follows.lists;
-  commands = w.follows.commands;
   env = environment_of w.follows.names c.scope;
   unfinished = texts_of c.scope.world.names c.builder.0;
   reads = w.follows.reads;
   runs = w.follows.runs;
-  number = number ∙ ap (λ (n : ℕ). n + 1) w.follows.counted;
+  number = number;
   fault = inr (
     sexp_of c.scope.world.names t,
     is_list_told c.scope.world.names t is_list,
@@ -238,41 +268,39 @@ pub follows_grown : (known : List (List ℕ)) (tokens : List Token) (c : Checker
 follows_grown known tokens c new lexer e f =
     let same : texts_of new c.builder.0 ≡ texts_of c.scope.world.names c.builder.0 = grown_texts c.scope.world.names new c.builder.0 e f.interned in record {
       lists = f.lists;
-      commands = f.commands;
       names = f.names;
       reads = subst (λ (fs : List (FlatToken Token)). Reads (flat_tokens tokens) f.lists fs) (sym same) f.reads;
       no_error = f.no_error;
       runs = f.runs;
-      counted = f.counted;
       interned = grown_interned c.scope.world.names new c.builder.0 e f.interned;
       table = f.table ∙ ap (λ (fs : List (FlatToken Token)). table_after f.names fs) (sym same);
+      undefined = f.undefined;
       stands = record { ready = ready_with_names c.scope.world new e f.stands.ready; undeclared = f.stands.undeclared };
     }
 
 -- nothing was taken yet
-pub starts : (c : Checker) → c.builder ≡ ([], None) → c.scope.logic ≡ false → c.scope.world.theories ≡ core_alone → c.scope.world.scopes ≡ empty → c.scope.next ≡ 0 → c.count ≡ 0 → HasRead [] [] c.lexer
+pub starts : (c : Checker) → c.builder ≡ ([], None) → c.scope.logic ≡ false → c.scope.world.theories ≡ core_alone → c.scope.world.scopes ≡ empty → c.scope.next ≡ 0 → c.scope.world.script ≡ empty_script → HasRead [] [] c.lexer
     → c.scope.world.names ≡ fixed_texts → IsNameTable c.scope.world.names → IsReadyScope c.scope → length c.scope.world.names ≤ 57 → HasTaken [] c
-starts c builder logic theories scopes next count read names table stands few = record {
+starts c builder logic theories scopes next script read names table stands few = record {
   tokens = [];
   read = read;
   follows = record {
     lists = [];
-    commands = [];
     names = c.scope.world.names;
     reads = subst (λ (s : State). Reads [] [] (texts_of c.scope.world.names s.0)) (sym builder) reads_nothing;
     no_error = ap (λ (s : State). s.1) builder;
-    runs = ap (λ (e : Environment). record { commands = []; env = e; cause = all_taken })
+    runs = ap (λ (k : Kept). all_of (commands_of k) (environment_of c.scope.world.names c.scope)) script ∙ ap (λ (e : Environment). all_of [] e)
         (ap (λ (ns : List (List ℕ)). record { names = ns; logic = c.scope.logic; theories = c.scope.world.theories; declarations = declarations_of c.scope.world.scopes; next = c.scope.next }) names
         ∙ (ap (λ (b : Bool). record { names = fixed_texts; logic = b; theories = c.scope.world.theories; declarations = declarations_of c.scope.world.scopes; next = c.scope.next }) logic
         ∙ (ap (λ (t : Theories). record { names = fixed_texts; logic = false; theories = t; declarations = declarations_of c.scope.world.scopes; next = c.scope.next }) theories
         ∙ (ap (λ (d : Scopes). record { names = fixed_texts; logic = false; theories = core_alone; declarations = declarations_of d; next = c.scope.next }) scopes
         ∙ ap (λ (n : ℕ). record { names = fixed_texts; logic = false; theories = core_alone; declarations = no_declarations; next = n }) next))));
-    counted = count;
     interned = subst (λ (s : State). AreInterned c.scope.world.names s.0) (sym builder) tt;
     table = subst (λ (s : State). c.scope.world.names ≡ table_after c.scope.world.names (texts_of c.scope.world.names s.0)) (sym builder) refl;
+    undefined = ap (λ (k : Kept). k.defs) script;
     stands = stands;
   };
   table = table;
   few_names = omega (arith, few);
-  few_commands = omega (arith, count);
+  few_commands = omega (arith, ap (λ (k : Kept). length (commands_of k)) script);
 }

@@ -1,11 +1,12 @@
 -- From a checker that takes bytes to what is said of the text.
 use Rattle.std.proofs.Common.{◌≡◌, ℕ, ◌+◌, ◌<◌, ◌≤◌, ◌^◌, Bool, true, false, List, [], ◌∷◌, ◌++◌, length, take, drop, get_or, Err, sym, ◌∙◌, ap, subst, append_assoc, append-nil, arith}
 use Rattle.std.proofs.lemmas.List.{length-append, length-take-le, take_more, take-append-drop}
+use Rattle.term_store.specs.Command.{PlainCommand}
 use Rattle.script_core.specs.declared.checker.Checker.{Checker}
 use Rattle.script_core.specs.declared.refusal.Stop.{Stop}
 use Rattle.script_core.specs.declared.refusal.Stop.TheVariants.{Refused, NoMemory}
-use Rattle.script_core.specs.Acceptance.{Refuses}
-use Rattle.script_core.specs.Checking.{ExitsByte, ExitsBytes, HasExited, HasTaken, IfRefused, RefusesByte, RefusesBytes, SofarCount, TakesByte, TakesBytes}
+use Rattle.script_core.specs.Acceptance.{Refuses, Sofar}
+use Rattle.script_core.specs.Checking.{ExitsByte, ExitsBytes, HasExited, HasTaken, IfRefused, RefusesByte, RefusesBytes, TakesByte, TakesBytes, accepted_by}
 use Rattle.script_core.specs.Judging.{Answers}
 use Rattle.script_core.specs.SessionState.{IsGiven, SessionState, Stands}
 
@@ -34,32 +35,30 @@ split_at bytes piece more i inside =
     ∙ ap (λ (xs : List ℕ). xs ++ more) (append_assoc bytes (take i piece) (get_or piece i 0 ∷ drop (i + 1) piece) ∙ ap (λ (xs : List ℕ). bytes ++ xs) whole)
 
 -- a byte of the chunk is the first that shows a fault
-pub byte_refused : (old c : Checker) (piece : List ℕ) (i : ℕ) (stop : Stop) → i < length piece → TakesBytes old (take i piece) c
-    → IfRefused stop (RefusesByte c (get_or piece i 0)) → IfRefused stop (RefusesBytes old piece)
-byte_refused old c piece i NoMemory inside before refuses = tt
-byte_refused old c piece i (Refused refusal) inside before refuses = λ bytes more ended h.
-    subst (λ (xs : List ℕ). Refuses xs ended refusal) (split_at bytes piece more i inside) (refuses (bytes ++ take i piece) (drop (i + 1) piece ++ more) ended (before bytes h))
+pub byte_refused : (old c : Checker) (piece : List ℕ) (i : ℕ) (commands : List PlainCommand) (stop : Stop) → i < length piece → TakesBytes old (take i piece) c
+    → IfRefused stop (RefusesByte c (get_or piece i 0) commands) → IfRefused stop (RefusesBytes old piece commands)
+byte_refused old c piece i commands NoMemory inside before refuses = tt
+byte_refused old c piece i commands (Refused refusal) inside before refuses = λ bytes more ended h.
+    subst (λ (xs : List ℕ). Refuses xs ended commands refusal) (split_at bytes piece more i inside) (refuses (bytes ++ take i piece) (drop (i + 1) piece ++ more) ended (before bytes h))
 
 -- a byte of the chunk ends the script
-pub byte_ends : (old c : Checker) (piece : List ℕ) (i count : ℕ) → i < length piece → TakesBytes old (take i piece) c → ExitsByte c (get_or piece i 0) count → ExitsBytes old piece count
-byte_ends old c piece i count inside before ends bytes h more ended =
-    subst (λ (xs : List ℕ). SofarCount xs ended count) (split_at bytes piece more i inside) (ends (bytes ++ take i piece) (before bytes h) (drop (i + 1) piece ++ more) ended)
+pub byte_ends : (old c : Checker) (piece : List ℕ) (i : ℕ) (commands : List PlainCommand) → i < length piece → TakesBytes old (take i piece) c → ExitsByte c (get_or piece i 0) commands → ExitsBytes old piece commands
+byte_ends old c piece i commands inside before ends bytes h more ended =
+    subst (λ (xs : List ℕ). Sofar xs ended commands) (split_at bytes piece more i inside) (ends (bytes ++ take i piece) (before bytes h) (drop (i + 1) piece ++ more) ended)
 
 -- the answer to a chunk that is refused
-pub feed_refused : (A : Type 0) (bytes piece : List ℕ) (c : Checker) (count : ℕ) (stop : Stop) → HasTaken bytes c
-    → IfRefused stop (RefusesBytes c piece) → IfRefused stop (λ refusal. refusal.command ≡ count + 1) → Answers {A = A} (bytes ++ piece) false count (Err stop)
-feed_refused A bytes piece c count NoMemory h refuses number = tt
-feed_refused A bytes piece c count (Refused refusal) h refuses number = record {
-  refuses = subst (λ (xs : List ℕ). Refuses xs false refusal) (append-nil (bytes ++ piece)) (refuses bytes [] false h);
-  counted = number;
-}
+pub feed_refused : (A : Type 0) (bytes piece : List ℕ) (c : Checker) (commands : List PlainCommand) (stop : Stop) → HasTaken bytes c
+    → IfRefused stop (RefusesBytes c piece commands) → Answers {A = A} (bytes ++ piece) false commands (Err stop)
+feed_refused A bytes piece c commands NoMemory h refuses = tt
+feed_refused A bytes piece c commands (Refused refusal) h refuses =
+    subst (λ (xs : List ℕ). Refuses xs false commands refusal) (append-nil (bytes ++ piece)) (refuses bytes [] false h)
 
 -- what was accepted up to an `exit` stays so where more bytes come
-pub exited_more : (bytes piece : List ℕ) (count : ℕ) → HasExited bytes count → HasExited (bytes ++ piece) count
-exited_more bytes piece count x more ended = subst (λ (xs : List ℕ). SofarCount xs ended count) (sym (append_assoc bytes piece more)) (x (piece ++ more) ended)
+pub exited_more : (bytes piece : List ℕ) (commands : List PlainCommand) → HasExited bytes commands → HasExited (bytes ++ piece) commands
+exited_more bytes piece commands x more ended = subst (λ (xs : List ℕ). Sofar xs ended commands) (sym (append_assoc bytes piece more)) (x (piece ++ more) ended)
 
-pub exited_now : (bytes : List ℕ) (ended : Bool) (count : ℕ) → HasExited bytes count → SofarCount bytes ended count
-exited_now bytes ended count x = subst (λ (xs : List ℕ). SofarCount xs ended count) (append-nil bytes) (x [] ended)
+pub exited_now : (bytes : List ℕ) (ended : Bool) (commands : List PlainCommand) → HasExited bytes commands → Sofar bytes ended commands
+exited_now bytes ended commands x = subst (λ (xs : List ℕ). Sofar xs ended commands) (append-nil bytes) (x [] ended)
 
 -- before an `exit` a session stands where its checker does, and after one where the script ended
 pub stands_taken : (ended : Bool) (bytes : List ℕ) (c : Checker) → ended ≡ false → Stands ended bytes c → HasTaken bytes c
@@ -68,7 +67,7 @@ stands_taken ended bytes c e s = subst (λ (b : Bool). Stands b bytes c) e s
 pub taken_stands : (ended : Bool) (bytes : List ℕ) (c : Checker) → ended ≡ false → HasTaken bytes c → Stands ended bytes c
 taken_stands ended bytes c e h = subst (λ (b : Bool). Stands b bytes c) (sym e) h
 
-pub stands_exited : (ended : Bool) (bytes : List ℕ) (c : Checker) → ended ≡ true → Stands ended bytes c → HasExited bytes c.count
+pub stands_exited : (ended : Bool) (bytes : List ℕ) (c : Checker) → ended ≡ true → Stands ended bytes c → HasExited bytes (accepted_by c)
 stands_exited ended bytes c e s = subst (λ (b : Bool). Stands b bytes c) e s
 
 -- what stands of the fields of a session

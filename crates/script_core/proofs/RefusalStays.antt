@@ -3,6 +3,7 @@ use Rattle.std.proofs.Common.{◌≡◌, ℕ, Bool, true, false, List, [], ◌�
 use Rattle.lex_core.specs.Token.{Token}
 use Rattle.lex_core.specs.declared.place.Place.{Place}
 use Rattle.sexp_core.specs.Sexp.{Sexp}
+use Rattle.term_store.specs.Command.{PlainCommand}
 use Rattle.script_core.specs.declared.refusal.Refusal.{Refusal}
 use Rattle.script_core.specs.Acceptance.{IsFirstFault, Refuses, TextFault, place_of}
 use Rattle.script_core.specs.Environment.{start}
@@ -41,12 +42,12 @@ first_stays early ended fault rest all_taken place f = same_fault early ended fa
 first_stays early ended fault rest (broken here) place f = f
 
 -- where the text goes on, the fault is that of a command, or of a token that breaks a rule of lists
-goes_on : (bytes more : List ℕ) (ended : Bool) (tokens : List Token) (lists : List (Sexp Token)) (rest : ListsEnd) (run : Run) (r : Refusal) (cause : Cause)
+goes_on : (bytes more : List ℕ) (ended : Bool) (tokens : List Token) (lists : List (Sexp Token)) (rest : ListsEnd) (run : Run) (cs : List PlainCommand) (r : Refusal) (cause : Cause)
     → cause ≡ run.cause → (later : List Token) (fault : Option Place) → HasTokens (bytes ++ more) (tokens ++ later) ended fault → HasLists tokens lists rest → Runs start lists run
-    → r.command ≡ length run.commands + 1 → IsFirstFault false None rest cause (place_of r) → Refuses (bytes ++ more) ended r
-goes_on bytes more ended tokens lists rest run r exited e later fault has_tokens has runs number first = absurd first
-goes_on bytes more ended tokens lists (Unfinished u) run r all_taken e later fault has_tokens has runs number first = absurd first
-goes_on bytes more ended tokens lists (Broken place) run r all_taken e later fault has_tokens has runs number first = record {
+    → cs ≡ run.commands → r.command ≡ length cs + 1 → IsFirstFault false None rest cause (place_of r) → Refuses (bytes ++ more) ended cs r
+goes_on bytes more ended tokens lists rest run cs r exited e later fault has_tokens has runs accepted number first = absurd first
+goes_on bytes more ended tokens lists (Unfinished u) run cs r all_taken e later fault has_tokens has runs accepted number first = absurd first
+goes_on bytes more ended tokens lists (Broken place) run cs r all_taken e later fault has_tokens has runs accepted number first = record {
   fault = fault;
   rest = Broken place;
   run = run;
@@ -57,10 +58,11 @@ goes_on bytes more ended tokens lists (Broken place) run r all_taken e later fau
     has_lists = broken_stays tokens later lists (Broken place) place refl has;
     runs = runs;
   };
+  accepted = accepted;
   number = number;
   first_fault = subst (λ (c : Cause). IsFirstFault ended fault (Broken place) c (place_of r)) e first;
 }
-goes_on bytes more ended tokens lists rest run r (broken here) e later fault has_tokens has runs number first =
+goes_on bytes more ended tokens lists rest run cs r (broken here) e later fault has_tokens has runs accepted number first =
     let on = lists_stay tokens later lists rest has in record {
       fault = fault;
       rest = on.rest;
@@ -72,15 +74,16 @@ goes_on bytes more ended tokens lists rest run r (broken here) e later fault has
         has_lists = on.has_lists;
         runs = runs_stay lists on.more start run runs (λ all. let k : broken here ≡ all_taken = e ∙ all in cc);
       };
+      accepted = accepted;
       number = number;
       first_fault = subst (λ (c : Cause). IsFirstFault ended fault on.rest c (place_of r)) e first;
     }
 
-stays_from : (bytes more : List ℕ) (early ended : Bool) (fault : Option Place) (rest : ListsEnd) (run : Run) (tokens : List Token) (lists : List (Sexp Token)) (r : Refusal)
-    → early ≡ false → HasTokens bytes tokens early fault → HasLists tokens lists rest → Runs start lists run → r.command ≡ length run.commands + 1 → IsFirstFault early fault rest run.cause (place_of r)
-    → Refuses (bytes ++ more) ended r
-stays_from bytes more early ended fault rest run tokens lists r e (Whole l) has runs number first = let k : true ≡ false = e in cc
-stays_from bytes more early ended fault rest run tokens lists r e (Faulty place shows) has runs number first = record {
+stays_from : (bytes more : List ℕ) (early ended : Bool) (fault : Option Place) (rest : ListsEnd) (run : Run) (tokens : List Token) (lists : List (Sexp Token)) (cs : List PlainCommand) (r : Refusal)
+    → early ≡ false → HasTokens bytes tokens early fault → HasLists tokens lists rest → Runs start lists run → cs ≡ run.commands → r.command ≡ length cs + 1 → IsFirstFault early fault rest run.cause (place_of r)
+    → Refuses (bytes ++ more) ended cs r
+stays_from bytes more early ended fault rest run tokens lists cs r e (Whole l) has runs accepted number first = let k : true ≡ false = e in cc
+stays_from bytes more early ended fault rest run tokens lists cs r e (Faulty place shows) has runs accepted number first = record {
   fault = Some place;
   rest = rest;
   run = run;
@@ -91,14 +94,15 @@ stays_from bytes more early ended fault rest run tokens lists r e (Faulty place 
     has_lists = has;
     runs = runs;
   };
+  accepted = accepted;
   number = number;
   first_fault = first_stays early ended place rest run.cause (place_of r) first;
 }
-stays_from bytes more early ended fault rest run tokens lists r e (GoesOn complete) has runs number first =
+stays_from bytes more early ended fault rest run tokens lists cs r e (GoesOn complete) has runs accepted number first =
     let p = complete_state bytes tokens complete in
     let from = tokens_from more bytes tokens p.0 ended p.1 in
-    goes_on bytes more ended tokens lists rest run r run.cause refl from.later from.fault from.has_tokens has runs number first
+    goes_on bytes more ended tokens lists rest run cs r run.cause refl from.later from.fault from.has_tokens has runs accepted number first
 
-pub refusal_stays : (bytes more : List ℕ) (ended : Bool) (r : Refusal) → Refuses bytes false r → Refuses (bytes ++ more) ended r
-refusal_stays bytes more ended r y =
-    stays_from bytes more false ended y.fault y.rest y.run y.judged.tokens y.judged.lists r refl y.judged.has_tokens y.judged.has_lists y.judged.runs y.number y.first_fault
+pub refusal_stays : (bytes more : List ℕ) (ended : Bool) (cs : List PlainCommand) (r : Refusal) → Refuses bytes false cs r → Refuses (bytes ++ more) ended cs r
+refusal_stays bytes more ended cs r y =
+    stays_from bytes more false ended y.fault y.rest y.run y.judged.tokens y.judged.lists cs r refl y.judged.has_tokens y.judged.has_lists y.judged.runs y.accepted y.number y.first_fault

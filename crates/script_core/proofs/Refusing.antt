@@ -13,10 +13,11 @@ use Rattle.lex_core.specs.declared.token.TokKind.TheVariants as kind
 use Rattle.sexp_core.proofs.TokensRead.{length-unfinished, reads_list}
 use Rattle.sexp_core.specs.Sexp.{map_flat}
 use Rattle.sexp_core.specs.Tokens.{flat_token, flat_tokens}
+use Rattle.term_store.specs.Command.{PlainCommand}
 use Rattle.script_core.specs.declared.checker.Checker.{Checker}
 use Rattle.script_core.specs.declared.refusal.Refusal.{Refusal}
-use Rattle.script_core.specs.Acceptance.{IsFaultless, Refuses, place_of}
-use Rattle.script_core.specs.Checking.{BreaksAmong, Exits, Follows, HasTokensOf, SofarCount, TokenBreaks, environment_of, texts_of}
+use Rattle.script_core.specs.Acceptance.{IsFaultless, Refuses, Sofar, place_of}
+use Rattle.script_core.specs.Checking.{BreaksAmong, Exits, Follows, HasTokensOf, TokenBreaks, accepted_by, environment_of, texts_of}
 use Rattle.script_core.specs.Environment.{start}
 use Rattle.script_core.specs.Steps.{Cause, all_taken, broken, exited}
 use Rattle.script_core.specs.Text.{AllRead, Broken, BreaksAt, HasLists, HasTokens, Unfinished}
@@ -24,13 +25,13 @@ use Rattle.script_core.proofs.Running.{all_of, next_breaks, runs_stay}
 use Rattle.script_core.proofs.TextLists.{length-flat_tokens, lists_from, one_token}
 
 -- a token that breaks a rule refuses the text, whatever comes after it
-token_refuses : (bytes : List ℕ) (ended : Bool) (before : List Token) (next : Token) (after : List Token) (fault : Option Place) (refusal : Refusal)
-    → HasTokens bytes (before ++ next ∷ after) ended fault → TokenBreaks before next refusal → Refuses bytes ended refusal
-token_refuses bytes ended before next after fault refusal has b = elim (b.fault) [
+token_refuses : (bytes : List ℕ) (ended : Bool) (before : List Token) (next : Token) (after : List Token) (fault : Option Place) (commands : List PlainCommand) (refusal : Refusal)
+    → HasTokens bytes (before ++ next ∷ after) ended fault → TokenBreaks before next commands refusal → Refuses bytes ended commands refusal
+token_refuses bytes ended before next after fault commands refusal has b = elim (b.fault) [
   | inl broken_list ↦ record {
     fault = fault;
     rest = Broken (place_of refusal);
-    run = all_of b.commands b.env;
+    run = all_of commands b.env;
     judged = record {
       tokens = before ++ next ∷ after;
       lists = b.lists;
@@ -38,6 +39,7 @@ token_refuses bytes ended before next after fault refusal has b = elim (b.fault)
       has_lists = BreaksAt (place_of refusal) before next after b.unfinished refl b.reads broken_list.0 broken_list.1;
       runs = b.runs;
     };
+    accepted = refl;
     number = b.number;
     first_fault = refl;
   }
@@ -45,35 +47,36 @@ token_refuses bytes ended before next after fault refusal has b = elim (b.fault)
       let from = lists_from after (before ++ next ∷ []) (b.lists ++ command.0 ∷ []) [] reads in record {
         fault = fault;
         rest = from.rest;
-        run = record { commands = b.commands; env = b.env; cause = broken (place_of refusal) };
+        run = record { commands = commands; env = b.env; cause = broken (place_of refusal) };
         judged = record {
           tokens = before ++ next ∷ after;
           lists = (b.lists ++ command.0 ∷ []) ++ from.more;
           has_tokens = has;
           has_lists = subst (λ (ts : List Token). HasLists ts ((b.lists ++ command.0 ∷ []) ++ from.more) from.rest) (append_assoc before (next ∷ []) after) from.has_lists;
-          runs = runs_stay (b.lists ++ command.0 ∷ []) from.more start (record { commands = b.commands; env = b.env; cause = broken (place_of refusal) })
-              (next_breaks b.lists command.0 start b.env b.commands (place_of refusal) b.runs command.3) (λ e. cc);
+          runs = runs_stay (b.lists ++ command.0 ∷ []) from.more start (record { commands = commands; env = b.env; cause = broken (place_of refusal) })
+              (next_breaks b.lists command.0 start b.env commands (place_of refusal) b.runs command.3) (λ e. cc);
         };
+        accepted = refl;
         number = b.number;
         first_fault = refl;
       }
 ]
 
-pub refuses_among : (bytes : List ℕ) (ended : Bool) (tokens new later : List Token) (fault : Option Place) (refusal : Refusal)
-    → HasTokens bytes ((tokens ++ new) ++ later) ended fault → BreaksAmong tokens new refusal → Refuses bytes ended refusal
-refuses_among bytes ended tokens new later fault refusal has b =
+pub refuses_among : (bytes : List ℕ) (ended : Bool) (tokens new later : List Token) (fault : Option Place) (commands : List PlainCommand) (refusal : Refusal)
+    → HasTokens bytes ((tokens ++ new) ++ later) ended fault → BreaksAmong tokens new commands refusal → Refuses bytes ended commands refusal
+refuses_among bytes ended tokens new later fault commands refusal has b =
     let split : (tokens ++ new) ++ later ≡ (tokens ++ b.front) ++ b.next ∷ (b.back ++ later) =
     ap (λ (ts : List Token). (tokens ++ ts) ++ later) b.spelled ∙ ap (λ (ts : List Token). ts ++ later) (sym (append_assoc tokens b.front (b.next ∷ b.back)))
     ∙ append_assoc (tokens ++ b.front) (b.next ∷ b.back) later in
-    token_refuses bytes ended (tokens ++ b.front) b.next (b.back ++ later) fault refusal (subst (λ (ts : List Token). HasTokens bytes ts ended fault) split has) b.breaks
+    token_refuses bytes ended (tokens ++ b.front) b.next (b.back ++ later) fault commands refusal (subst (λ (ts : List Token). HasTokens bytes ts ended fault) split has) b.breaks
 
 -- a fault of the lexicon after tokens that broke no rule
 pub fault_refuses : (bytes : List ℕ) (ended : Bool) (tokens : List Token) (c : Checker) (place : Place) → HasTokens bytes tokens ended (Some place) → HasTokensOf tokens c
-    → Refuses bytes ended (record { command = c.count + 1; at = place.at; rule = place.code })
+    → Refuses bytes ended (accepted_by c) (record { command = length (accepted_by c) + 1; at = place.at; rule = place.code })
 fault_refuses bytes ended tokens c place has f = record {
   fault = Some place;
   rest = Unfinished (texts_of c.scope.world.names c.builder.0);
-  run = all_of f.commands (environment_of f.names c.scope);
+  run = all_of (accepted_by c) (environment_of f.names c.scope);
   judged = record {
     tokens = tokens;
     lists = f.lists;
@@ -81,32 +84,29 @@ fault_refuses bytes ended tokens c place has f = record {
     has_lists = AllRead (texts_of c.scope.world.names c.builder.0) f.reads;
     runs = f.runs;
   };
-  number = ap (λ (n : ℕ). n + 1) f.counted;
+  accepted = refl;
+  number = refl;
   first_fault = refl;
 }
 
 -- an accepted `exit` ends the script, whatever comes after it
-pub exits_in : (bytes : List ℕ) (ended : Bool) (tokens later : List Token) (fault : Option Place) (count : ℕ) → HasTokens bytes (tokens ++ later) ended fault → Exits tokens count
-    → SofarCount bytes ended count
-exits_in bytes ended tokens later fault count has x =
+pub exits_in : (bytes : List ℕ) (ended : Bool) (tokens later : List Token) (fault : Option Place) (commands : List PlainCommand) → HasTokens bytes (tokens ++ later) ended fault → Exits tokens commands
+    → Sofar bytes ended commands
+exits_in bytes ended tokens later fault commands has x =
     let from = lists_from (x.back ++ later) x.front x.lists [] x.reads in
     let split : tokens ++ later ≡ x.front ++ (x.back ++ later) = ap (λ (ts : List Token). ts ++ later) x.spelled ∙ append_assoc x.front x.back later in record {
-      commands = x.run.commands;
-      sofar = record {
-        fault = fault;
-        rest = from.rest;
-        run = x.run;
-        judged = record {
-          tokens = x.front ++ (x.back ++ later);
-          lists = x.lists ++ from.more;
-          has_tokens = subst (λ (ts : List Token). HasTokens bytes ts ended fault) split has;
-          has_lists = from.has_lists;
-          runs = runs_stay x.lists from.more start x.run x.runs (λ e. let k : exited ≡ all_taken = sym x.ends ∙ e in cc);
-        };
-        accepted = refl;
-        faultless = subst (λ (cause : Cause). IsFaultless ended fault from.rest cause) (sym x.ends) tt;
+      fault = fault;
+      rest = from.rest;
+      run = x.run;
+      judged = record {
+        tokens = x.front ++ (x.back ++ later);
+        lists = x.lists ++ from.more;
+        has_tokens = subst (λ (ts : List Token). HasTokens bytes ts ended fault) split has;
+        has_lists = from.has_lists;
+        runs = runs_stay x.lists from.more start x.run x.runs (λ e. let k : exited ≡ all_taken = sym x.ends ∙ e in cc);
       };
-      counted = x.counted;
+      accepted = x.accepted;
+      faultless = subst (λ (cause : Cause). IsFaultless ended fault from.rest cause) (sym x.ends) tt;
     }
 
 -- every lexeme has bytes, so there are no more tokens than bytes

@@ -1,7 +1,8 @@
 -- What the rules answer as functions is what the relation of the rules says.
-use Rattle.std.proofs.Common.{◌≡◌, ℕ, ◌+◌, ◌≤◌, nat_le, Bool, true, false, not, ◌&&◌, ◌==◌, ◌<◌, List, [], ◌∷◌, ◌++◌, length, Result, Ok, Err, IsTrue, refl, sym, ◌∙◌, subst, inl, inr}
+use Rattle.std.proofs.Common.{◌≡◌, ℕ, ◌+◌, ◌≤◌, nat_le, Bool, true, false, not, ◌&&◌, ◌==◌, ◌<◌, List, [], ◌∷◌, ◌++◌, length, Result, Ok, Err, IsTrue, refl, ap, sym, ◌∙◌, subst, inl, inr}
 use Rattle.std.specs.Option.{is_some}
 use Rattle.std.proofs.lemmas.Bool.{false≢true, le-leb, leb-true}
+use Rattle.std.proofs.lemmas.List.{map-append}
 use Rattle.lex_core.specs.declared.place.Place.{Place}
 use Rattle.lex_core.specs.declared.token.Tok.{Tok}
 use Rattle.sig_table.specs.declared.code.Code.{Code}
@@ -11,6 +12,7 @@ use Rattle.judgement.specs.Judging.{Judging, Outcome, ◌>>=◌, check, ill_sort
 use Rattle.term_grammar.specs.declared.words.TheConstants.{GLOBAL_DECLARATIONS}
 use Rattle.term_grammar.specs.Reads.{byte_of}
 use Rattle.term_grammar.specs.Syntax.{Term, constant, qualified_term, application, let_in, for_all, there_exists, match_with, annotated, Terms, no_terms, with_term}
+use Rattle.term_store.specs.Command.{PlainCommand, plain_command}
 use Rattle.cmd_grammar.specs.Commands.{Command, assert, declare_const, declare_fun, declare_sort, define_sort, echo, exit, get_info, get_option, pop, push, reset, set_info, set_logic, set_option}
 use Rattle.cmd_grammar.specs.CommandReads.{read_command}
 use Rattle.cmd_grammar.specs.Grammar.{ReadsCommand}
@@ -20,16 +22,17 @@ use Rattle.cmd_grammar.specs.declared.command.GrError.{GrError}
 use Rattle.cmd_grammar.specs.declared.command.GrError.TheVariants as grammar
 use Rattle.typer.specs.Declarations.{depth}
 use Rattle.script_core.specs.declared.refusal.Progress.{Progress}
-use Rattle.script_core.specs.declared.refusal.Progress.TheVariants as progress
 use Rattle.script_core.specs.declared.scope.StepError.{StepError}
 use Rattle.script_core.specs.declared.scope.StepError.TheVariants as error
-use Rattle.script_core.specs.Checking.{AnswersTree, TakesTree}
+use Rattle.term_store.specs.Script.{Kept, commands_of}
+use Rattle.term_store.specs.declared.command.TypedCommand.{TypedCommand}
+use Rattle.script_core.specs.declared.scope.Scope.{Scope}
+use Rattle.script_core.specs.Checking.{AnswersTree, TakesTree, environment_of, progress_of}
 use Rattle.script_core.specs.Effects.{AnswersParts, IsDeclaredNamed, IsInMode}
 use Rattle.script_core.specs.Environment.{Environment, logic_theories, text_of}
 use Rattle.script_core.specs.Interned.{AreInterned}
 use Rattle.script_core.specs.RuleAnswers.{Answer, answer_all_built, answer_built, answer_form, answer_mode, both, test}
 use Rattle.script_core.specs.Rules.{attribute_key, is_built, judge_all_built, judge_built, judge_command, judge_form, judge_mode, judge_parts, value_of}
-use Rattle.script_core.specs.SessionState.{progress_of}
 use Rattle.script_core.specs.Steps.{is_exit, judge_tree}
 
 -- the judgement has this outcome, where no name is declared
@@ -143,54 +146,54 @@ tree_broken env t c at p read here says =
       c,
       [],
       (found_reads t c read, refl),
-      inl (first_broken (judge_form (byte_of t) c) (judge_mode env (byte_of t) c) (judge_parts env c) (answer_form (byte_of t) c) (answer_mode env (byte_of t) c) p
-          (form_met (byte_of t) c) (mode_met env (byte_of t) c) (subst (λ (n : ℕ). both (answer_form n c) (answer_mode env n c) ≡ Err p) here says)),
+      first_broken (judge_form (byte_of t) c) (judge_mode env (byte_of t) c) (judge_parts env (byte_of t) c) (answer_form (byte_of t) c) (answer_mode env (byte_of t) c) p
+          (form_met (byte_of t) c) (mode_met env (byte_of t) c) (subst (λ (n : ℕ). both (answer_form n c) (answer_mode env n c) ≡ Err p) here says),
     )
   where
-    first_broken : (I J : Judging (Unit {0})) (K : Judging Environment) (r s : Answer) (p : Place) → IsMet I r → IsMet J s → both r s ≡ Err p → (I >>= λ u. J >>= λ v. K) [] (ill_sorted p)
+    first_broken : (I J : Judging (Unit {0})) (K : Judging (PlainCommand × Environment)) (r s : Answer) (p : Place) → IsMet I r → IsMet J s → both r s ≡ Err p → (I >>= λ u. J >>= λ v. K) [] (ill_sorted p)
     first_broken I J K (Ok u) (Ok v) p i j e = cc
     first_broken I J K (Ok u) (Err x) p i j e = let h : x ≡ p = cc in inr (tt, [], i, inl (subst (λ (y : Place). J [] (ill_sorted y)) h j))
     first_broken I J K (Err x) s p i j e = let h : x ≡ p = cc in inl (subst (λ (y : Place). I [] (ill_sorted y)) h i)
 
 -- the form and the mode of the command are right
-command_after : (env : Environment) (at : ℕ) (c : Command) (o : Outcome Environment) → both (answer_form at c) (answer_mode env at c) ≡ Ok tt → judge_parts env c [] o → judge_command env at c [] o
-command_after env at c o says parts = met (judge_form at c) (judge_mode env at c) (judge_parts env c) (answer_form at c) (answer_mode env at c) o (form_met at c) (mode_met env at c) says parts
+command_after : (env : Environment) (at : ℕ) (c : Command) (o : Outcome (PlainCommand × Environment)) → both (answer_form at c) (answer_mode env at c) ≡ Ok tt → judge_parts env at c [] o → judge_command env at c [] o
+command_after env at c o says parts = met (judge_form at c) (judge_mode env at c) (judge_parts env at c) (answer_form at c) (answer_mode env at c) o (form_met at c) (mode_met env at c) says parts
   where
-    met : (I J : Judging (Unit {0})) (K : Judging Environment) (r s : Answer) (o : Outcome Environment) → IsMet I r → IsMet J s → both r s ≡ Ok tt → K [] o → (I >>= λ u. J >>= λ v. K) [] o
+    met : (I J : Judging (Unit {0})) (K : Judging (PlainCommand × Environment)) (r s : Answer) (o : Outcome (PlainCommand × Environment)) → IsMet I r → IsMet J s → both r s ≡ Ok tt → K [] o → (I >>= λ u. J >>= λ v. K) [] o
     met I J K (Ok u) (Ok v) (well_sorted x after) i j e k = (tt, [], i, (tt, [], j, k))
     met I J K (Ok u) (Ok v) (ill_sorted p) i j e k = inr (tt, [], i, inr (tt, [], j, k))
     met I J K (Ok u) (Err x) o i j e k = cc
     met I J K (Err x) s o i j e k = cc
 
-same_progress : (b : Bool) → progress.More ≡ progress_of b → b ≡ false
-same_progress true e = cc
-same_progress false e = refl
+-- the tree is read as a command, whose parts have this outcome
+judged_parts : (env : Environment) (t : Sexp Tok) (c : Command) (at : ℕ) (o : Outcome (PlainCommand × Environment)) → read_command t ≡ Ok c → at ≡ byte_of t → both (answer_form at c) (answer_mode env at c) ≡ Ok tt
+    → judge_parts env at c [] o → judge_tree env t [] o
+judged_parts env t c at (well_sorted x after) read here says parts =
+    (c, [], (found_reads t c read, refl), subst (λ (n : ℕ). judge_command env n c [] (well_sorted x after)) here (command_after env at c (well_sorted x after) says parts))
+judged_parts env t c at (ill_sorted p) read here says parts =
+    inr (c, [], (found_reads t c read, refl), subst (λ (n : ℕ). judge_command env n c [] (ill_sorted p)) here (command_after env at c (ill_sorted p) says parts))
 
-same_end : (b : Bool) → progress.Ended ≡ progress_of b → b ≡ true
-same_end true e = refl
-same_end false e = cc
-
--- the tree is read as a command, which leads to a new environment
-pub tree_takes : (env new : Environment) (t : Sexp Tok) (c : Command) (at : ℕ) (p : Progress) → read_command t ≡ Ok c → at ≡ byte_of t → both (answer_form at c) (answer_mode env at c) ≡ Ok tt
-    → judge_parts env c [] (well_sorted new []) → p ≡ progress_of (is_exit c) → TakesTree env t p new
-tree_takes env new t c at p read here says parts = takes p
-  where
-    judged : judge_command env (byte_of t) c [] (well_sorted new [])
-    judged = command_after env (byte_of t) c (well_sorted new []) (subst (λ (n : ℕ). both (answer_form n c) (answer_mode env n c) ≡ Ok tt) here says) parts
-
-    tree : judge_tree env t [] (well_sorted (c, new) [])
-    tree = (c, [], (found_reads t c read, refl), (new, [], judged, (refl, refl)))
-
-    takes : (p : Progress) → p ≡ progress_of (is_exit c) → TakesTree env t p new
-    takes progress.More e = (c, [], tree, same_progress (is_exit c) e)
-    takes progress.Ended e = (c, [], tree, same_end (is_exit c) e)
+-- the tree is read as a command, which is put last
+pub tree_takes : (old mid : Scope) (script : Kept) (t : Sexp Tok) (c : Command) (at : ℕ) (command : TypedCommand) (p : Progress) → read_command t ≡ Ok c → at ≡ byte_of t
+    → both (answer_form at c) (answer_mode (environment_of old.world.names old) at c) ≡ Ok tt
+    → AnswersParts (environment_of old.world.names old) at c (Ok command) (environment_of old.world.names mid) → mid.world.script ≡ old.world.script
+    → script ≡ record { commands = mid.world.script.commands ++ command ∷ []; defs = mid.world.script.defs }
+    → p ≡ progress_of (is_exit (plain_command command)) → TakesTree old t p (record mid { world = record mid.world { script = script } })
+tree_takes old mid script t c at command p read here says parts kept pushed goes = record {
+  command = plain_command command;
+  declared = [];
+  judged = judged_parts (environment_of old.world.names old) t c at (well_sorted (plain_command command, environment_of old.world.names mid) []) read here says parts;
+  goes_on = goes;
+  put_last = ap commands_of pushed ∙ (map-append plain_command mid.world.script.commands (command ∷ []) ∙ ap (λ (k : Kept). commands_of k ++ plain_command command ∷ []) kept);
+  defines_nothing = ap (λ (k : Kept). k.defs) pushed ∙ ap (λ (k : Kept). k.defs) kept;
+}
 
 -- the tree is read as a command, whose parts break a rule or want memory
-pub tree_refused : (env new : Environment) (t : Sexp Tok) (c : Command) (at : ℕ) (e : StepError) → read_command t ≡ Ok c → at ≡ byte_of t → both (answer_form at c) (answer_mode env at c) ≡ Ok tt
-    → AnswersParts env c (Err e) new → AnswersTree env t (Err e) new
-tree_refused env new t c at error.NoMemory read here says parts = tt
-tree_refused env new t c at (error.Broken p) read here says parts =
-    inr (c, [], (found_reads t c read, refl), inl (command_after env (byte_of t) c (ill_sorted p) (subst (λ (n : ℕ). both (answer_form n c) (answer_mode env n c) ≡ Ok tt) here says) parts))
+pub tree_refused : (old new after : Scope) (t : Sexp Tok) (c : Command) (at : ℕ) (e : StepError) → read_command t ≡ Ok c → at ≡ byte_of t
+    → both (answer_form at c) (answer_mode (environment_of old.world.names old) at c) ≡ Ok tt
+    → AnswersParts (environment_of old.world.names old) at c (Err e) (environment_of old.world.names new) → AnswersTree old t (Err e) after
+tree_refused old new after t c at error.NoMemory read here says parts = tt
+tree_refused old new after t c at (error.Broken p) read here says parts = judged_parts (environment_of old.world.names old) t c at (ill_sorted p) read here says parts
 
 second_interned : (texts : List (List ℕ)) (at : ℕ) (a b : Tok) (rest : List (FlatToken Tok)) → AreInterned texts (Opening at ∷ Word a ∷ Word b ∷ rest) → b.name < length texts
 second_interned texts at a b rest (x, (y, z)) = y

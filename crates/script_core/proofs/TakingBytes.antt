@@ -16,14 +16,15 @@ use Rattle.sexp_core.proofs.MappedReading.{unclosed-map}
 use Rattle.sexp_core.specs.Reading.{IsUnclosed, Reads}
 use Rattle.sexp_core.specs.Sexp.{FlatToken}
 use Rattle.sexp_core.specs.Tokens.{flat_tokens}
+use Rattle.term_store.specs.Command.{PlainCommand}
 use Rattle.script_core.specs.declared.checker.Checker.{Checker}
 use Rattle.script_core.specs.declared.refusal.Progress.{Progress}
 use Rattle.script_core.specs.declared.refusal.Progress.TheVariants as progress
 use Rattle.script_core.specs.declared.refusal.Refusal.{Refusal}
 use Rattle.script_core.specs.declared.refusal.Stop.{Stop}
 use Rattle.script_core.specs.declared.refusal.Stop.TheVariants.{Refused, NoMemory}
-use Rattle.script_core.specs.Acceptance.{Refuses}
-use Rattle.script_core.specs.Checking.{Awaits, BreaksAmong, BreaksWithin, Exits, ExitsByte, ExitsWithin, HasExited, HasTaken, HasTokensOf, IfEnded, IfMore, IfRefused, RefusesByte, RefusesText, SofarCount, TakesByte, TakesTokens, environment_of, texts_of}
+use Rattle.script_core.specs.Acceptance.{Accepts, Refuses, Sofar}
+use Rattle.script_core.specs.Checking.{Awaits, BreaksAmong, BreaksWithin, Exits, ExitsByte, ExitsWithin, HasExited, HasTaken, HasTokensOf, IfEnded, IfMore, IfRefused, RefusesByte, RefusesText, TakesByte, TakesTokens, accepted_by, environment_of, texts_of}
 use Rattle.script_core.specs.Text.{AllRead, Faulty, GoesOn, HasTokens, Unfinished, Whole}
 use Rattle.script_core.proofs.FollowingTokens.{follows_grown, lexed}
 use Rattle.script_core.proofs.NameTables.{AddNames, add_names_front, first_there, gained_names, option_there, take_option}
@@ -80,7 +81,7 @@ fed_awaited bytes c byte fed names lexer h l = awaits_fed bytes c byte fed names
 
 -- the byte was taken
 pub byte_taken : (c n : Checker) (byte : ℕ) (fed : Fed) (names : List (List ℕ)) (lexer : Option LexerState) (r : Result Progress Stop) → Feeds c byte fed names lexer
-    → IfMore r (TakesTokens (lexed c names lexer) (take 1 (fed_tokens names fed)) (fed_tokens names fed) n) → n.scope.world.names ≡ names → n.lexer ≡ lexer → n.count ≤ c.count + 2
+    → IfMore r (TakesTokens (lexed c names lexer) (take 1 (fed_tokens names fed)) (fed_tokens names fed) n) → n.scope.world.names ≡ names → n.lexer ≡ lexer → length (accepted_by n) ≤ length (accepted_by c) + 2
     → IfMore r (TakesByte c byte n)
 byte_taken c n byte fed names lexer (Err stop) l more same_names same_lexer count = tt
 byte_taken c n byte fed names lexer (Ok progress.Ended) l more same_names same_lexer count = tt
@@ -93,33 +94,33 @@ byte_taken c n byte fed names lexer (Ok progress.More) l more same_names same_le
   few_commands = omega (arith, h.few_commands, count, length-append bytes (byte ∷ []));
 }
 
-among_refuses : (bytes : List ℕ) (tokens new : List Token) (lexer : Option LexerState) (more : List ℕ) (ended : Bool) (refusal : Refusal) → HasRead bytes (tokens ++ new) lexer → BreaksAmong tokens new refusal
-    → Refuses (bytes ++ more) ended refusal
-among_refuses bytes tokens new None more ended refusal read b = absurd read
-among_refuses bytes tokens new (Some p) more ended refusal read b =
-    let from = tokens_from more bytes (tokens ++ new) p ended read in refuses_among (bytes ++ more) ended tokens new from.later from.fault refusal from.has_tokens b
+among_refuses : (bytes : List ℕ) (tokens new : List Token) (lexer : Option LexerState) (more : List ℕ) (ended : Bool) (commands : List PlainCommand) (refusal : Refusal) → HasRead bytes (tokens ++ new) lexer → BreaksAmong tokens new commands refusal
+    → Refuses (bytes ++ more) ended commands refusal
+among_refuses bytes tokens new None more ended commands refusal read b = absurd read
+among_refuses bytes tokens new (Some p) more ended commands refusal read b =
+    let from = tokens_from more bytes (tokens ++ new) p ended read in refuses_among (bytes ++ more) ended tokens new from.later from.fault commands refusal from.has_tokens b
 
-exits_sofar : (bytes : List ℕ) (tokens : List Token) (lexer : Option LexerState) (count : ℕ) → HasRead bytes tokens lexer → Exits tokens count → HasExited bytes count
-exits_sofar bytes tokens None count read x more ended = absurd read
-exits_sofar bytes tokens (Some p) count read x more ended =
-    let from = tokens_from more bytes tokens p ended read in exits_in (bytes ++ more) ended tokens from.later from.fault count from.has_tokens x
+exits_sofar : (bytes : List ℕ) (tokens : List Token) (lexer : Option LexerState) (commands : List PlainCommand) → HasRead bytes tokens lexer → Exits tokens commands → HasExited bytes commands
+exits_sofar bytes tokens None commands read x more ended = absurd read
+exits_sofar bytes tokens (Some p) commands read x more ended =
+    let from = tokens_from more bytes tokens p ended read in exits_in (bytes ++ more) ended tokens from.later from.fault commands from.has_tokens x
 
 -- a token that the byte completed ends the script
 pub byte_exits : (c n : Checker) (byte : ℕ) (fed : Fed) (names : List (List ℕ)) (lexer : Option LexerState) (r : Result Progress Stop) → Feeds c byte fed names lexer
-    → IfEnded r (ExitsWithin (lexed c names lexer) (take 1 (fed_tokens names fed)) (fed_tokens names fed) n.count) → IfEnded r (ExitsByte c byte n.count)
+    → IfEnded r (ExitsWithin (lexed c names lexer) (take 1 (fed_tokens names fed)) (fed_tokens names fed) (accepted_by n)) → IfEnded r (ExitsByte c byte (accepted_by n))
 byte_exits c n byte fed names lexer (Err stop) l ends = tt
 byte_exits c n byte fed names lexer (Ok progress.More) l ends = tt
 byte_exits c n byte fed names lexer (Ok progress.Ended) l ends = λ bytes h.
-    exits_sofar (bytes ++ byte ∷ []) (h.tokens ++ fed_tokens names fed) lexer n.count (l.reads bytes h.tokens h.read) (ends h.tokens (fed_awaited bytes c byte fed names lexer h l))
+    exits_sofar (bytes ++ byte ∷ []) (h.tokens ++ fed_tokens names fed) lexer (accepted_by n) (l.reads bytes h.tokens h.read) (ends h.tokens (fed_awaited bytes c byte fed names lexer h l))
 
 -- a token that the byte completed breaks a rule
-pub byte_refused : (c : Checker) (byte : ℕ) (fed : Fed) (names : List (List ℕ)) (lexer : Option LexerState) (r : Result Progress Stop) → Feeds c byte fed names lexer
-    → IfErr r (λ e. IfRefused e (BreaksWithin (lexed c names lexer) (take 1 (fed_tokens names fed)) (fed_tokens names fed)))
-    → IfErr r (λ e. IfRefused e (RefusesByte c byte))
-byte_refused c byte fed names lexer (Ok u) l broken = tt
-byte_refused c byte fed names lexer (Err NoMemory) l broken = tt
-byte_refused c byte fed names lexer (Err (Refused refusal)) l broken = λ bytes more ended h.
-    among_refuses (bytes ++ byte ∷ []) h.tokens (fed_tokens names fed) lexer more ended refusal (l.reads bytes h.tokens h.read) (broken h.tokens (fed_awaited bytes c byte fed names lexer h l))
+pub byte_refused : (c : Checker) (byte : ℕ) (fed : Fed) (names : List (List ℕ)) (lexer : Option LexerState) (commands : List PlainCommand) (r : Result Progress Stop) → Feeds c byte fed names lexer
+    → IfErr r (λ e. IfRefused e (BreaksWithin (lexed c names lexer) (take 1 (fed_tokens names fed)) (fed_tokens names fed) commands))
+    → IfErr r (λ e. IfRefused e (RefusesByte c byte commands))
+byte_refused c byte fed names lexer commands (Ok u) l broken = tt
+byte_refused c byte fed names lexer commands (Err NoMemory) l broken = tt
+byte_refused c byte fed names lexer commands (Err (Refused refusal)) l broken = λ bytes more ended h.
+    among_refuses (bytes ++ byte ∷ []) h.tokens (fed_tokens names fed) lexer more ended commands refusal (l.reads bytes h.tokens h.read) (broken h.tokens (fed_awaited bytes c byte fed names lexer h l))
 
 -- what the lexer says of a byte that breaks the lexicon
 pub record Faults (c : Checker) (byte : ℕ) (before : Option Tok) (place : Place) (names : List (List ℕ)) : Type 0 where
@@ -140,51 +141,47 @@ faulty_tokens c byte given place bytes more ended faults h =
     Faulty place (fault_stays (bytes ++ byte ∷ []) (h.tokens ++ given) false place.at place.code more ended refl (faults bytes h.tokens h.read))
 
 -- the token before the fault breaks a rule
-pub before_refused : (c : Checker) (byte : ℕ) (before : Option Tok) (place : Place) (names : List (List ℕ)) (lexer : Option LexerState) (e : Stop) → Faults c byte before place names
-    → IfRefused e (BreaksWithin (lexed c names lexer) (option_tokens names before) (option_tokens names before)) → IfRefused e (RefusesByte c byte)
-before_refused c byte before place names lexer NoMemory l broken = tt
-before_refused c byte before place names lexer (Refused refusal) l broken = λ bytes more ended h.
-    refuses_among ((bytes ++ byte ∷ []) ++ more) ended h.tokens (option_tokens names before) [] (Some place) refusal
+pub before_refused : (c : Checker) (byte : ℕ) (before : Option Tok) (place : Place) (names : List (List ℕ)) (lexer : Option LexerState) (commands : List PlainCommand) (e : Stop) → Faults c byte before place names
+    → IfRefused e (BreaksWithin (lexed c names lexer) (option_tokens names before) (option_tokens names before) commands) → IfRefused e (RefusesByte c byte commands)
+before_refused c byte before place names lexer commands NoMemory l broken = tt
+before_refused c byte before place names lexer commands (Refused refusal) l broken = λ bytes more ended h.
+    refuses_among ((bytes ++ byte ∷ []) ++ more) ended h.tokens (option_tokens names before) [] (Some place) commands refusal
     (subst (λ (ts : List Token). HasTokens ((bytes ++ byte ∷ []) ++ more) ts ended (Some place)) (sym (append-nil (h.tokens ++ option_tokens names before)))
     (faulty_tokens c byte (option_tokens names before) place bytes more ended l.faults h))
     (broken h.tokens (before_awaited bytes c byte before place names lexer h l))
 
 -- the token before the fault ends the script
-pub before_exits : (c : Checker) (byte : ℕ) (before : Option Tok) (place : Place) (names : List (List ℕ)) (lexer : Option LexerState) (count : ℕ) → Faults c byte before place names
-    → ExitsWithin (lexed c names lexer) (option_tokens names before) (option_tokens names before) count → ExitsByte c byte count
-before_exits c byte before place names lexer count l ends bytes h more ended =
-    exits_in ((bytes ++ byte ∷ []) ++ more) ended (h.tokens ++ option_tokens names before) [] (Some place) count
+pub before_exits : (c : Checker) (byte : ℕ) (before : Option Tok) (place : Place) (names : List (List ℕ)) (lexer : Option LexerState) (commands : List PlainCommand) → Faults c byte before place names
+    → ExitsWithin (lexed c names lexer) (option_tokens names before) (option_tokens names before) commands → ExitsByte c byte commands
+before_exits c byte before place names lexer commands l ends bytes h more ended =
+    exits_in ((bytes ++ byte ∷ []) ++ more) ended (h.tokens ++ option_tokens names before) [] (Some place) commands
     (subst (λ (ts : List Token). HasTokens ((bytes ++ byte ∷ []) ++ more) ts ended (Some place)) (sym (append-nil (h.tokens ++ option_tokens names before)))
     (faulty_tokens c byte (option_tokens names before) place bytes more ended l.faults h))
     (ends h.tokens (before_awaited bytes c byte before place names lexer h l))
 
 -- the byte breaks the lexicon
 pub fault_refused : (c n : Checker) (byte : ℕ) (before : Option Tok) (place : Place) (names : List (List ℕ)) (lexer : Option LexerState) (stop : Stop) → Faults c byte before place names
-    → TakesTokens (lexed c names lexer) (option_tokens names before) (option_tokens names before) n → stop ≡ Refused (record { command = n.count + 1; at = place.at; rule = place.code })
-    → IfRefused stop (RefusesByte c byte)
+    → TakesTokens (lexed c names lexer) (option_tokens names before) (option_tokens names before) n → stop ≡ Refused (record { command = length (accepted_by n) + 1; at = place.at; rule = place.code })
+    → IfRefused stop (RefusesByte c byte (accepted_by n))
 fault_refused c n byte before place names lexer stop l ok says = rw says (λ bytes more ended h.
     fault_refuses ((bytes ++ byte ∷ []) ++ more) ended (h.tokens ++ option_tokens names before) n place (faulty_tokens c byte (option_tokens names before) place bytes more ended l.faults h)
     (ok h.tokens (before_awaited bytes c byte before place names lexer h l)))
 
 -- no fault is seen before the end
-pub taken_sofar : (bytes : List ℕ) (c : Checker) → HasTaken bytes c → SofarCount bytes false c.count
+pub taken_sofar : (bytes : List ℕ) (c : Checker) → HasTaken bytes c → Sofar bytes false (accepted_by c)
 taken_sofar bytes c h = record {
-  commands = h.follows.commands;
-  sofar = record {
-    fault = None;
-    rest = Unfinished (texts_of c.scope.world.names c.builder.0);
-    run = all_of h.follows.commands (environment_of h.follows.names c.scope);
-    judged = record {
-      tokens = h.tokens;
-      lists = h.follows.lists;
-      has_tokens = complete c.lexer h.read;
-      has_lists = AllRead (texts_of c.scope.world.names c.builder.0) h.follows.reads;
-      runs = h.follows.runs;
-    };
-    accepted = refl;
-    faultless = λ place fault. fault;
+  fault = None;
+  rest = Unfinished (texts_of c.scope.world.names c.builder.0);
+  run = all_of (accepted_by c) (environment_of h.follows.names c.scope);
+  judged = record {
+    tokens = h.tokens;
+    lists = h.follows.lists;
+    has_tokens = complete c.lexer h.read;
+    has_lists = AllRead (texts_of c.scope.world.names c.builder.0) h.follows.reads;
+    runs = h.follows.runs;
   };
-  counted = h.follows.counted;
+  accepted = refl;
+  faultless = λ place fault. fault;
 }
   where
     complete : (lexer : Option LexerState) → HasRead bytes h.tokens lexer → HasTokens bytes h.tokens false None
@@ -210,50 +207,46 @@ whole_tokens bytes c left names h l =
 
 -- the end was taken, and no list is open
 pub end_accepted : (c n : Checker) (names : List (List ℕ)) (lexer : Option LexerState) (left : Option Tok) → Lefts c left names
-    → TakesTokens (lexed c names lexer) (option_tokens names left) (option_tokens names left) n → n.builder.0 ≡ [] → (bytes : List ℕ) → HasTaken bytes c → SofarCount bytes true n.count
+    → TakesTokens (lexed c names lexer) (option_tokens names left) (option_tokens names left) n → n.builder.0 ≡ [] → (bytes : List ℕ) → HasTaken bytes c → Accepts bytes (accepted_by n)
 end_accepted c n names lexer left l ok closed bytes h =
     let f = ok h.tokens (left_awaited bytes c left names lexer h l) in record {
-      commands = f.commands;
-      sofar = record {
-        fault = None;
-        rest = Unfinished [];
-        run = all_of f.commands (environment_of f.names n.scope);
-        judged = record {
-          tokens = h.tokens ++ option_tokens names left;
-          lists = f.lists;
-          has_tokens = Whole (l.lexes bytes h.tokens h.read);
-          has_lists = AllRead [] (subst (λ (u : List (FlatToken Tok)). Reads (flat_tokens (h.tokens ++ option_tokens names left)) f.lists (texts_of n.scope.world.names u)) closed f.reads);
-          runs = f.runs;
-        };
-        accepted = refl;
-        faultless = λ place fault. let e = fault.0.1 in cc;
+      fault = None;
+      rest = Unfinished [];
+      run = all_of (accepted_by n) (environment_of f.names n.scope);
+      judged = record {
+        tokens = h.tokens ++ option_tokens names left;
+        lists = f.lists;
+        has_tokens = Whole (l.lexes bytes h.tokens h.read);
+        has_lists = AllRead [] (subst (λ (u : List (FlatToken Tok)). Reads (flat_tokens (h.tokens ++ option_tokens names left)) f.lists (texts_of n.scope.world.names u)) closed f.reads);
+        runs = f.runs;
       };
-      counted = f.counted;
+      accepted = refl;
+      faultless = λ place fault. let e = fault.0.1 in cc;
     }
 
 -- the token that is left at the end ends the script
-pub left_exits : (c : Checker) (names : List (List ℕ)) (lexer : Option LexerState) (left : Option Tok) (count : ℕ) → Lefts c left names
-    → ExitsWithin (lexed c names lexer) (option_tokens names left) (option_tokens names left) count → (bytes : List ℕ) → HasTaken bytes c → SofarCount bytes true count
-left_exits c names lexer left count l ends bytes h =
-    exits_in bytes true (h.tokens ++ option_tokens names left) [] None count (whole_tokens bytes c left names h l) (ends h.tokens (left_awaited bytes c left names lexer h l))
+pub left_exits : (c : Checker) (names : List (List ℕ)) (lexer : Option LexerState) (left : Option Tok) (commands : List PlainCommand) → Lefts c left names
+    → ExitsWithin (lexed c names lexer) (option_tokens names left) (option_tokens names left) commands → (bytes : List ℕ) → HasTaken bytes c → Accepts bytes commands
+left_exits c names lexer left commands l ends bytes h =
+    exits_in bytes true (h.tokens ++ option_tokens names left) [] None commands (whole_tokens bytes c left names h l) (ends h.tokens (left_awaited bytes c left names lexer h l))
 
 -- the token that is left at the end breaks a rule
-pub left_refused : (c : Checker) (names : List (List ℕ)) (lexer : Option LexerState) (left : Option Tok) (e : Stop) → Lefts c left names
-    → IfRefused e (BreaksWithin (lexed c names lexer) (option_tokens names left) (option_tokens names left)) → IfRefused e (RefusesText c)
-left_refused c names lexer left NoMemory l broken = tt
-left_refused c names lexer left (Refused refusal) l broken = λ bytes h.
-    refuses_among bytes true h.tokens (option_tokens names left) [] None refusal (whole_tokens bytes c left names h l)
+pub left_refused : (c : Checker) (names : List (List ℕ)) (lexer : Option LexerState) (left : Option Tok) (commands : List PlainCommand) (e : Stop) → Lefts c left names
+    → IfRefused e (BreaksWithin (lexed c names lexer) (option_tokens names left) (option_tokens names left) commands) → IfRefused e (RefusesText c commands)
+left_refused c names lexer left commands NoMemory l broken = tt
+left_refused c names lexer left commands (Refused refusal) l broken = λ bytes h.
+    refuses_among bytes true h.tokens (option_tokens names left) [] None commands refusal (whole_tokens bytes c left names h l)
     (broken h.tokens (left_awaited bytes c left names lexer h l))
 
 -- a list is open at the end
 pub open_refused : (c n : Checker) (names : List (List ℕ)) (lexer : Option LexerState) (left : Option Tok) (place : Place) (stop : Stop) → Lefts c left names
     → TakesTokens (lexed c names lexer) (option_tokens names left) (option_tokens names left) n → (place.code ≡ UnclosedList) × IsUnclosed n.builder.0 place.at
-    → stop ≡ Refused (record { command = n.count + 1; at = place.at; rule = place.code }) → IfRefused stop (RefusesText c)
+    → stop ≡ Refused (record { command = length (accepted_by n) + 1; at = place.at; rule = place.code }) → IfRefused stop (RefusesText c (accepted_by n))
 open_refused c n names lexer left place stop l ok unclosed says = rw says (λ bytes h.
     let f = ok h.tokens (left_awaited bytes c left names lexer h l) in record {
       fault = None;
       rest = Unfinished (texts_of n.scope.world.names n.builder.0);
-      run = all_of f.commands (environment_of f.names n.scope);
+      run = all_of (accepted_by n) (environment_of f.names n.scope);
       judged = record {
         tokens = h.tokens ++ option_tokens names left;
         lists = f.lists;
@@ -261,13 +254,14 @@ open_refused c n names lexer left place stop l ok unclosed says = rw says (λ by
         has_lists = AllRead (texts_of n.scope.world.names n.builder.0) f.reads;
         runs = f.runs;
       };
-      number = ap (λ (m : ℕ). m + 1) f.counted;
+      accepted = refl;
+      number = refl;
       first_fault = (unclosed-map (token_of n.scope.world.names) n.builder.0 place.at unclosed.1, unclosed.0);
     })
 
 -- the text ends in a lexeme that lacks its end
-pub end_refused : (c : Checker) (place : Place) (stop : Stop) → FaultsAtEnd c.lexer place → stop ≡ Refused (record { command = c.count + 1; at = place.at; rule = place.code })
-    → IfRefused stop (RefusesText c)
+pub end_refused : (c : Checker) (place : Place) (stop : Stop) → FaultsAtEnd c.lexer place → stop ≡ Refused (record { command = length (accepted_by c) + 1; at = place.at; rule = place.code })
+    → IfRefused stop (RefusesText c (accepted_by c))
 end_refused c place stop faults says = rw says (λ bytes h. fault_refuses bytes true h.tokens c place (Faulty place (faults bytes h.tokens h.read)) h.follows)
 
 -- what a checker keeps of the tokens is no longer than the text

@@ -1,6 +1,5 @@
 -- What the parts of a command lead to, from what the calls answer.
-use Rattle.std.proofs.Common.{◌≡◌, ℕ, ◌+◌, ◌==◌, Bool, true, false, List, [], ◌∷◌, ◌++◌, map, length, Option, Some, None, Result, Ok, Err, refl, ap, sym, ◌∙◌, subst, inl, inr, arith, append_assoc, slice_index_or, if◌then◌else◌}
-use Rattle.std.specs.Prelude.{IfErr, OnOk}
+use Rattle.std.proofs.Common.{◌≡◌, ℕ, ◌+◌, ◌==◌, Bool, true, false, List, [], ◌∷◌, ◌++◌, map, length, Option, Some, None, Ok, refl, ap, sym, ◌∙◌, subst, inl, inr, arith, append_assoc, slice_index_or, if◌then◌else◌}
 use Rattle.std.specs.List.{All, list_any}
 use Rattle.std.proofs.lemmas.List.{length-map}
 use Rattle.std.proofs.lemmas.Bool.{eqb-true, false≢true}
@@ -8,6 +7,7 @@ use Rattle.lex_core.specs.declared.token.Tok.{Tok}
 use Rattle.sig_table.specs.declared.code.Code.TheVariants as code
 use Rattle.sexp_core.specs.Sexp.{Sexp}
 use Rattle.judgement.specs.Judging.{Outcome, ill_sorted, well_sorted}
+use Rattle.sort_store.specs.declared.head.DeclNo.{DeclNo}
 use Rattle.sort_store.specs.Tree.{NumberedSort, tree}
 use Rattle.scope_stack.specs.declared.entry.FunEntry.{FunEntry}
 use Rattle.scope_stack.specs.declared.entry.SortEntry.{SortEntry}
@@ -21,17 +21,19 @@ use Rattle.typer.proofs.DeclarationsByTrees.{fun_by_trees, popped_by_trees, push
 use Rattle.term_grammar.specs.AttributeViews.{attribute_kind}
 use Rattle.term_grammar.specs.IdentifierViews.{SplitsTokens}
 use Rattle.cmd_grammar.specs.Commands.{declare_const, declare_fun, define_sort}
+use Rattle.cmd_grammar.specs.Commands as commands
+use Rattle.term_store.specs.declared.command.TypedCommand.TheVariants as kept
+use Rattle.term_store.specs.Command as typed
+use Rattle.term_store.specs.Value.{unplaced_value}
 use Rattle.term_grammar.specs.Syntax.{Sort, Sorts, Attribute, keyword_attribute, valued_attribute}
 use Rattle.term_grammar.specs.declared.attribute.RawAttributeKind.TheVariants as kind
 use Rattle.term_grammar.specs.declared.words.TheConstants.{GLOBAL_DECLARATIONS}
 use Rattle.script_core.specs.declared.scope.Scope.{Scope}
-use Rattle.script_core.specs.declared.scope.StepError.{StepError}
-use Rattle.script_core.specs.declared.scope.StepError.TheVariants as error
 use Rattle.script_core.specs.Checking.{environment_of}
 use Rattle.script_core.specs.Effects.{AnswersParts, AnswersSort, AnswersSorts, OnlySortsGrow}
 use Rattle.script_core.specs.Environment.{Environment, signature_in}
 use Rattle.script_core.specs.RuleAnswers.{tokens_left}
-use Rattle.script_core.specs.Rules.{after_option, is_true, judge_params, with_defined_sort, with_function}
+use Rattle.script_core.specs.Rules.{after_option, attribute_key, attribute_value, is_true, judge_params, next_number, value_of, with_defined_sort, with_function}
 use Rattle.script_core.proofs.ReadyScopes.{with_scopes}
 
 -- the environment where declarations have changed
@@ -134,66 +136,97 @@ pub schemas_later : (old new : Scope) (rs : List NumberedSort) → OnlySortsGrow
 schemas_later old new rs g h =
     λ k d l. subst (λ (ns : List (List ℕ)). IsReadySchema ns new.world.sorts 0 (slice_index_or rs k d)) (sym (same_names old new g)) (schema_grown old.world.names old.world.sorts new.world.sorts g.grows 0 _ (h k d l))
 
+same_pair : {A B : Type 0} (a b : A) (x y : B) → a ≡ b → x ≡ y → ◌≡◌ {A = A × B} (a, x) (b, y)
+same_pair a b x y e f = cc
+
+-- the number of a declaration
+number_kept : (old near : Scope) (given : DeclNo) → OnlySortsGrow old near → given ≡ record { 0 = near.next } → given ≡ next_number (environment_of old.world.names old)
+number_kept old near given more e = e ∙ ap (λ (s : Scope). next_number (environment_of s.world.names s)) more.others
+
+-- levels that are pushed or popped
+pub push_answer : (old new : Scope) (at n : ℕ) (count : Tok) → n ≡ value_of (environment_of old.world.names old) count
+    → environment_of old.world.names new ≡ record (environment_of old.world.names old) { declarations = with_pushed n (declarations_of old.world.scopes) }
+    → AnswersParts (environment_of old.world.names old) at (commands.push count) (Ok (kept.Push n)) (environment_of old.world.names new)
+push_answer old new at n count value effect =
+    let env = environment_of old.world.names old in
+    (same_pair _ _ _ _ (ap typed.push value) (effect ∙ ap (λ (m : ℕ). record env { declarations = with_pushed m (declarations_of old.world.scopes) }) value), refl)
+
+pub pop_answer : (old new : Scope) (at n : ℕ) (count : Tok) → n ≡ value_of (environment_of old.world.names old) count
+    → environment_of old.world.names new ≡ record (environment_of old.world.names old) { declarations = with_popped n (declarations_of old.world.scopes) }
+    → AnswersParts (environment_of old.world.names old) at (commands.pop count) (Ok (kept.Pop n)) (environment_of old.world.names new)
+pop_answer old new at n count value effect =
+    let env = environment_of old.world.names old in
+    (same_pair _ _ _ _ (ap typed.pop value) (effect ∙ ap (λ (m : ℕ). record env { declarations = with_popped m (declarations_of old.world.scopes) }) value), refl)
+
 -- the declaration of a constant, once its sort is made
-pub const_answer : (old near new : Scope) (n : Tok) (s : Sort) (args : List NumberedSort) (sort : NumberedSort) (r : Result (Unit {0}) StepError)
+pub const_answer : (old near new : Scope) (at : ℕ) (n : Tok) (s : Sort) (args : List NumberedSort) (sort copy : NumberedSort) (given : DeclNo)
     → is_fun_in_use (signature_in (environment_of old.world.names old)) n.name ≡ false → AnswersSort (environment_of old.world.names old) [] s (Ok sort) → OnlySortsGrow old near → args ≡ []
-    → OnOk r (environment_of near.world.names new ≡ with_function (environment_of near.world.names near) n.name (map tree args) (tree sort))
-    → IfErr r (λ e. e ≡ error.NoMemory) → AnswersParts (environment_of old.world.names old) (declare_const n s) r (environment_of old.world.names new)
-const_answer old near new n s args sort (Err error.NoMemory) fresh sorted more none effect only = tt
-const_answer old near new n s args sort (Err (error.Broken p)) fresh sorted more none effect only = cc
-const_answer old near new n s args sort (Ok u) fresh sorted more none effect only = (
-  tt,
-  [],
-  (fresh, refl),
-  (
-    tree sort,
-    [],
-    sorted,
-    (
-      ap (λ (ns : List (List ℕ)). environment_of ns new) (sym (same_names old near more)) ∙ (effect
-          ∙ (ap (λ (e : Environment). with_function e n.name (map tree args) (tree sort)) (here_env old near more) ∙ ap (λ (rs : List NumberedSort). with_function (environment_of old.world.names old) n.name (map tree rs) (tree sort)) none)),
-      refl,
-    ),
-  ),
-)
+    → environment_of near.world.names new ≡ with_function (environment_of near.world.names near) n.name (map tree args) (tree sort)
+    → given ≡ record { 0 = near.next } → copy ≡ sort → AnswersParts (environment_of old.world.names old) at (declare_const n s) (Ok (kept.DeclareConst given n.name copy)) (environment_of old.world.names new)
+const_answer old near new at n s args sort copy given fresh sorted more none effect number same =
+    let env = environment_of old.world.names old in
+    let command : typed.declare_const given n.name (tree copy) ≡ typed.declare_const (next_number env) n.name (tree sort) =
+    ap (λ (d : DeclNo). typed.declare_const d n.name (tree copy)) (number_kept old near given more number) ∙ ap (λ (r : NumberedSort). typed.declare_const (next_number env) n.name (tree r)) same in (
+      tt,
+      [],
+      (fresh, refl),
+      (
+        tree sort,
+        [],
+        sorted,
+        (
+          same_pair _ _ _ _ command (ap (λ (ns : List (List ℕ)). environment_of ns new) (sym (same_names old near more)) ∙ (effect
+              ∙ (ap (λ (e : Environment). with_function e n.name (map tree args) (tree sort)) (here_env old near more) ∙ ap (λ (rs : List NumberedSort). with_function env n.name (map tree rs) (tree sort)) none))),
+          refl,
+        ),
+      ),
+    )
 
 -- the declaration of a function, once its sorts are made
-pub fun_answer : (old mid near new : Scope) (n : Tok) (ss : Sorts) (s : Sort) (args : List NumberedSort) (sort : NumberedSort) (r : Result (Unit {0}) StepError)
+pub fun_answer : (old mid near new : Scope) (at : ℕ) (n : Tok) (ss : Sorts) (s : Sort) (args copies : List NumberedSort) (sort copy : NumberedSort) (given : DeclNo)
     → is_fun_in_use (signature_in (environment_of old.world.names old)) n.name ≡ false → AnswersSorts (environment_of old.world.names old) ss (Ok args) → OnlySortsGrow old mid
     → AnswersSort (environment_of mid.world.names mid) [] s (Ok sort) → OnlySortsGrow mid near
-    → OnOk r (environment_of near.world.names new ≡ with_function (environment_of near.world.names near) n.name (map tree args) (tree sort))
-    → IfErr r (λ e. e ≡ error.NoMemory) → AnswersParts (environment_of old.world.names old) (declare_fun n ss s) r (environment_of old.world.names new)
-fun_answer old mid near new n ss s args sort (Err error.NoMemory) fresh given grown sorted more effect none = tt
-fun_answer old mid near new n ss s args sort (Err (error.Broken p)) fresh given grown sorted more effect none = cc
-fun_answer old mid near new n ss s args sort (Ok u) fresh given grown sorted more effect none =
+    → environment_of near.world.names new ≡ with_function (environment_of near.world.names near) n.name (map tree args) (tree sort)
+    → given ≡ record { 0 = near.next } → copies ≡ args → copy ≡ sort
+    → AnswersParts (environment_of old.world.names old) at (declare_fun n ss s) (Ok (kept.DeclareFun given n.name copies copy)) (environment_of old.world.names new)
+fun_answer old mid near new at n ss s args copies sort copy given fresh sorted_args grown sorted more effect number same_args same =
+    let env = environment_of old.world.names old in
     let here = here_env old mid grown in
-    let names : near.world.names ≡ old.world.names = same_names mid near more ∙ same_names old mid grown in (
+    let names : near.world.names ≡ old.world.names = same_names mid near more ∙ same_names old mid grown in
+    let given_is : given ≡ next_number env = number_kept mid near given more number ∙ ap next_number here in
+    let command : typed.declare_fun given n.name (map tree copies) (tree copy) ≡ typed.declare_fun (next_number env) n.name (map tree args) (tree sort) =
+    ap (λ (d : DeclNo). typed.declare_fun d n.name (map tree copies) (tree copy)) given_is
+    ∙ (ap (λ (rs : List NumberedSort). typed.declare_fun (next_number env) n.name (map tree rs) (tree copy)) same_args ∙ ap (λ (r : NumberedSort). typed.declare_fun (next_number env) n.name (map tree args) (tree r)) same) in (
       tt,
       [],
       (fresh, refl),
       (
         map tree args,
         [],
-        given,
+        sorted_args,
         (
           tree sort,
           [],
           subst (λ (e : Environment). AnswersSort e [] s (Ok sort)) here sorted,
-          (ap (λ (ns : List (List ℕ)). environment_of ns new) (sym names) ∙ (effect ∙ ap (λ (e : Environment). with_function e n.name (map tree args) (tree sort)) (here_env mid near more ∙ here)), refl),
+          (
+            same_pair _ _ _ _ command
+                (ap (λ (ns : List (List ℕ)). environment_of ns new) (sym names) ∙ (effect ∙ ap (λ (e : Environment). with_function e n.name (map tree args) (tree sort)) (here_env mid near more ∙ here))),
+            refl,
+          ),
         ),
       ),
     )
 
 -- the definition of a sort, once its body is made
-pub sort_answer : (old near new : Scope) (n : Tok) (ps : List Tok) (s : Sort) (ids : List ℕ) (sort : NumberedSort) (count : ℕ) (r : Result (Unit {0}) StepError)
+pub sort_answer : (old near new : Scope) (at : ℕ) (n : Tok) (ps : List Tok) (s : Sort) (ids : List ℕ) (sort copy : NumberedSort) (count : ℕ)
     → is_sort_in_use (signature_in (environment_of old.world.names old)) n.name ≡ false → judge_params [] ps [] (well_sorted tt []) → ids ≡ map (λ q. q.name) ps
     → AnswersSort (environment_of old.world.names old) ids s (Ok sort) → OnlySortsGrow old near → count ≡ length ids
-    → OnOk r (environment_of near.world.names new ≡ with_defined_sort (environment_of near.world.names near) n.name count (tree sort))
-    → IfErr r (λ e. e ≡ error.NoMemory) → AnswersParts (environment_of old.world.names old) (define_sort n ps s) r (environment_of old.world.names new)
-sort_answer old near new n ps s ids sort count (Err error.NoMemory) fresh apart named sorted more counted effect none = tt
-sort_answer old near new n ps s ids sort count (Err (error.Broken p)) fresh apart named sorted more counted effect none = cc
-sort_answer old near new n ps s ids sort count (Ok u) fresh apart named sorted more counted effect none =
-    let number : count ≡ length ps = counted ∙ (ap length named ∙ length-map ps _) in (
+    → environment_of near.world.names new ≡ with_defined_sort (environment_of near.world.names near) n.name count (tree sort)
+    → copy ≡ sort → AnswersParts (environment_of old.world.names old) at (define_sort n ps s) (Ok (kept.DefineSort n.name ids copy)) (environment_of old.world.names new)
+sort_answer old near new at n ps s ids sort copy count fresh apart named sorted more counted effect same =
+    let number : count ≡ length ps = counted ∙ (ap length named ∙ length-map ps _) in
+    let command : typed.define_sort n.name ids (tree copy) ≡ typed.define_sort n.name (map (λ q. q.name) ps) (tree sort) =
+    ap (λ (ns : List ℕ). typed.define_sort n.name ns (tree copy)) named ∙ ap (λ (r : NumberedSort). typed.define_sort n.name (map (λ q. q.name) ps) (tree r)) same in (
       tt,
       [],
       (fresh, refl),
@@ -206,10 +239,16 @@ sort_answer old near new n ps s ids sort count (Ok u) fresh apart named sorted m
           [],
           subst (λ (ns : List ℕ). AnswersSort (environment_of old.world.names old) ns s (Ok sort)) named sorted,
           (
-            ap (λ (ns : List (List ℕ)). environment_of ns new) (sym (same_names old near more)) ∙ (effect
-                ∙ (ap (λ (e : Environment). with_defined_sort e n.name count (tree sort)) (here_env old near more) ∙ ap (λ (m : ℕ). with_defined_sort (environment_of old.world.names old) n.name m (tree sort)) number)),
+            same_pair _ _ _ _ command (ap (λ (ns : List (List ℕ)). environment_of ns new) (sym (same_names old near more)) ∙ (effect
+                ∙ (ap (λ (e : Environment). with_defined_sort e n.name count (tree sort)) (here_env old near more) ∙ ap (λ (m : ℕ). with_defined_sort (environment_of old.world.names old) n.name m (tree sort)) number))),
             refl,
           ),
         ),
       ),
     )
+
+-- an option is set, and kept with its value
+pub option_answer : (env after : Environment) (at : ℕ) (a : Attribute) (key : ℕ) (value : Option (Sexp Tok)) → key ≡ (attribute_key a).name → unplaced_value value ≡ attribute_value a → after ≡ after_option env a
+    → AnswersParts env at (commands.set_option a) (Ok (kept.SetOption key value)) after
+option_answer env after at a key value named valued effect =
+    (same_pair _ _ _ _ (ap (λ (k : ℕ). typed.set_option k (unplaced_value value)) named ∙ ap (λ (v : Option (Sexp Tok)). typed.set_option (attribute_key a).name v) valued) effect, refl)

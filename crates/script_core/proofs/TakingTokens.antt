@@ -1,6 +1,6 @@
 -- The answers of a builder, as a checker sees them.
-use Rattle.std.proofs.Common.{◌≡◌, ℕ, ◌+◌, ◌<◌, true, List, [], ◌∷◌, ◌++◌, length, Option, None, Some, Result, Ok, Err, refl, sym, ◌∙◌, ap, subst, append_assoc, append-nil}
-use Rattle.std.specs.Prelude.{IfErr, IfOk, IfSome, OnOk}
+use Rattle.std.proofs.Common.{◌≡◌, ℕ, ◌+◌, ◌<◌, ◌≤◌, true, List, [], ◌∷◌, ◌++◌, length, Option, None, Some, Result, Ok, Err, refl, sym, ◌∙◌, ap, subst, append_assoc, append-nil, length-append, arith}
+use Rattle.std.specs.Prelude.{IfErr, IfOk, IfSome, OnErr, OnOk}
 use Rattle.std.specs.List.{list_any}
 use Rattle.std.specs.Str.{bytes_eq}
 use Rattle.lex_core.specs.NameTable.{IsNameTable}
@@ -17,19 +17,22 @@ use Rattle.sexp_core.specs.Sexp.{Sexp, flat}
 use Rattle.sexp_core.specs.Tokens.{flat_of, flat_tok, flat_tokens}
 use Rattle.sexp_core.specs.declared.builder.SexpError.{SexpError}
 use Rattle.sexp_core.specs.declared.builder.SexpError.TheVariants as error
+use Rattle.term_store.specs.Command.{PlainCommand}
+use Rattle.term_store.specs.Script.{commands_of}
 use Rattle.script_core.specs.declared.checker.Checker.{Checker}
 use Rattle.script_core.specs.declared.refusal.Progress.{Progress}
 use Rattle.script_core.specs.declared.refusal.Progress.TheVariants as progress
 use Rattle.script_core.specs.declared.refusal.Refusal.{Refusal}
 use Rattle.script_core.specs.declared.refusal.Stop.{Stop}
+use Rattle.script_core.specs.declared.scope.Scope.{Scope}
 use Rattle.script_core.specs.declared.refusal.Stop.TheVariants.{Refused, NoMemory}
-use Rattle.script_core.specs.Checking.{Awaits, BreaksAmong, BreaksTree, BreaksWith, BreaksWithin, Exits, ExitsWithin, HasTokensOf, IfEnded, IfMore, IfRefused, IsReadyScope, TakesTokens, TakesTree, TokenBreaks, environment_of}
+use Rattle.script_core.specs.Checking.{Awaits, BreaksAmong, BreaksTree, BreaksWith, BreaksWithin, Exits, ExitsWithin, HasTokensOf, IfEnded, IfMore, IfRefused, IsReadyScope, TakesTokens, TakesTree, TokenBreaks, accepted_by}
 use Rattle.script_core.specs.Interned.{AreInterned}
 use Rattle.script_core.specs.Numbering.{table_after}
 use Rattle.script_core.proofs.FollowingTokens.{breaks_command, breaks_lists, exits_list, follows_inside, follows_list, interned_last}
 use Rattle.script_core.proofs.NameTables.{name_in_table}
 
-some_of : {A : Type 0} (P : A → Type 0) (o : Option A) (t : A) → o ≡ Some t → IfSome o P → P t
+pub some_of : {A : Type 0} (P : A → Type 0) (o : Option A) (t : A) → o ≡ Some t → IfSome o P → P t
 some_of {A} P o t e h = subst (λ (x : Option A). IfSome x P) e h
 
 -- the tree is a list, whose tokens are those that came
@@ -52,53 +55,64 @@ taken_inside tokens c tok new o w named e unfinished inside faulty =
 pub taken_list : (c n : Checker) (tok : Tok) (o : Option (Sexp Tok)) (t : Sexp Tok) (builder : State) (r : Result Progress Stop) → IsNameTable c.scope.world.names → tok.name < length c.scope.world.names
     → o ≡ Some t → (c.builder.1 ≡ None → IfSome o (IsTaken c tok))
     → (c.builder.1 ≡ None → IfSome o (λ x. builder ≡ ([], None))) → n.builder ≡ builder → n.scope.world.names ≡ c.scope.world.names
-    → IfOk r (λ p. TakesTree (environment_of c.scope.world.names c.scope) t p (environment_of c.scope.world.names n.scope)) → OnOk r (n.count ≡ c.count + 1) → OnOk r (IsReadyScope n.scope)
+    → IfOk r (λ p. TakesTree c.scope t p n.scope) → OnOk r (IsReadyScope n.scope)
     → IfMore r (TakesTokens c (token_of c.scope.world.names tok ∷ []) (token_of c.scope.world.names tok ∷ []) n)
-taken_list c n tok o t builder (Err stop) table named e tree emptied same names steps counted stands = tt
-taken_list c n tok o t builder (Ok progress.Ended) table named e tree emptied same names steps counted stands = tt
-taken_list c n tok o t builder (Ok progress.More) table named e tree emptied same names steps counted stands = λ tokens w.
+taken_list c n tok o t builder (Err stop) table named e tree emptied same names steps stands = tt
+taken_list c n tok o t builder (Ok progress.Ended) table named e tree emptied same names steps stands = tt
+taken_list c n tok o t builder (Ok progress.More) table named e tree emptied same names steps stands = λ tokens w.
     let taken = some_of (IsTaken c tok) o t e (tree w.follows.no_error) in
-    follows_list tokens c n tok t w table named taken.0 taken.1 (same ∙ some_of (λ (x : Sexp Tok). builder ≡ ([], None)) o t e (emptied w.follows.no_error)) names steps counted stands
+    follows_list tokens c n tok t w table named taken.0 taken.1 (same ∙ some_of (λ (x : Sexp Tok). builder ≡ ([], None)) o t e (emptied w.follows.no_error)) names steps stands
 
 pub ended_list : (c n : Checker) (tok : Tok) (o : Option (Sexp Tok)) (t : Sexp Tok) (r : Result Progress Stop) → IsNameTable c.scope.world.names → tok.name < length c.scope.world.names
     → o ≡ Some t → (c.builder.1 ≡ None → IfSome o (IsTaken c tok))
-    → IfOk r (λ p. TakesTree (environment_of c.scope.world.names c.scope) t p (environment_of c.scope.world.names n.scope)) → OnOk r (n.count ≡ c.count + 1)
-    → IfEnded r (ExitsWithin c (token_of c.scope.world.names tok ∷ []) (token_of c.scope.world.names tok ∷ []) n.count)
-ended_list c n tok o t (Err stop) table named e tree steps counted = tt
-ended_list c n tok o t (Ok progress.More) table named e tree steps counted = tt
-ended_list c n tok o t (Ok progress.Ended) table named e tree steps counted = λ tokens w.
-    let taken = some_of (IsTaken c tok) o t e (tree w.follows.no_error) in exits_list tokens c n tok t w table named taken.0 taken.1 steps counted
+    → IfOk r (λ p. TakesTree c.scope t p n.scope)
+    → IfEnded r (ExitsWithin c (token_of c.scope.world.names tok ∷ []) (token_of c.scope.world.names tok ∷ []) (accepted_by n))
+ended_list c n tok o t (Err stop) table named e tree steps = tt
+ended_list c n tok o t (Ok progress.More) table named e tree steps = tt
+ended_list c n tok o t (Ok progress.Ended) table named e tree steps = λ tokens w.
+    let taken = some_of (IsTaken c tok) o t e (tree w.follows.no_error) in exits_list tokens c n tok t w table named taken.0 taken.1 steps
 
-pub refused_list : (c : Checker) (tok : Tok) (o : Option (Sexp Tok)) (t : Sexp Tok) (r : Result Progress Stop) → IsNameTable c.scope.world.names → tok.name < length c.scope.world.names
+-- a list that is taken is one command more
+pub counted_more : (old new : Scope) (t : Sexp Tok) (goes : Progress) → TakesTree old t goes new → length (commands_of new.world.script) ≤ length (commands_of old.world.script) + 1
+counted_more old new t goes takes = omega (arith, ap length takes.put_last, length-append (commands_of old.world.script) (takes.command ∷ []))
+
+-- where the script is as before, so are the commands accepted
+same_accepted : (c n : Checker) → n.scope.world.script ≡ c.scope.world.script → accepted_by c ≡ accepted_by n
+same_accepted c n e = ap commands_of (sym e)
+
+pub refused_list : (c n : Checker) (tok : Tok) (o : Option (Sexp Tok)) (t : Sexp Tok) (r : Result Progress Stop) → IsNameTable c.scope.world.names → tok.name < length c.scope.world.names
     → o ≡ Some t → (c.builder.1 ≡ None → IfSome o (IsTaken c tok))
-    → IfErr r (λ e. IfRefused e (BreaksTree c t)) → IfErr r (λ e. IfRefused e (BreaksWith c (token_of c.scope.world.names tok)))
-refused_list c tok o t (Ok u) table named e tree h = tt
-refused_list c tok o t (Err NoMemory) table named e tree h = tt
-refused_list c tok o t (Err (Refused refusal)) table named e tree h = λ tokens w.
-    let taken = some_of (IsTaken c tok) o t e (tree w.follows.no_error) in breaks_command tokens c tok t refusal w table named taken.0 taken.1 h.0 h.1
+    → IfErr r (λ e. IfRefused e (BreaksTree c t)) → OnErr r (n.scope.world.script ≡ c.scope.world.script)
+    → IfErr r (λ e. IfRefused e (BreaksWith c (token_of c.scope.world.names tok) (accepted_by n)))
+refused_list c n tok o t (Ok u) table named e tree h same = tt
+refused_list c n tok o t (Err NoMemory) table named e tree h same = tt
+refused_list c n tok o t (Err (Refused refusal)) table named e tree h same = λ tokens w.
+    let taken = some_of (IsTaken c tok) o t e (tree w.follows.no_error) in
+    subst (λ (cs : List PlainCommand). TokenBreaks tokens (token_of c.scope.world.names tok) cs refusal) (same_accepted c n same)
+    (breaks_command tokens c tok t refusal w table named taken.0 taken.1 h.0 h.1)
 
 pub broken_token : (c : Checker) (tok : Tok) (e : SexpError) (place : Place) (stop : Stop) → e ≡ error.Fault place → (c.builder.1 ≡ None → IsTreeError c.builder.0 (flat_tok tok) tok.at e)
-    → stop ≡ Refused (record { command = c.count + 1; at = place.at; rule = place.code })
-    → IfRefused stop (BreaksWith c (token_of c.scope.world.names tok))
+    → stop ≡ Refused (record { command = length (accepted_by c) + 1; at = place.at; rule = place.code })
+    → IfRefused stop (BreaksWith c (token_of c.scope.world.names tok) (accepted_by c))
 broken_token c tok e place stop is fault says = rw says (λ tokens w.
     let broken = subst (λ (x : SexpError). IsTreeError c.builder.0 (flat_tok tok) tok.at x) is (fault w.follows.no_error) in breaks_lists tokens c tok place.code place.at w broken.0 broken.1)
 
 -- one token that breaks a rule, among itself alone
-pub one_among : (c : Checker) (next : Token) (r : Result Progress Stop) → IfErr r (λ e. IfRefused e (BreaksWith c next))
-    → IfErr r (λ e. IfRefused e (BreaksWithin c (next ∷ []) (next ∷ [])))
-one_among c next (Ok u) h = tt
-one_among c next (Err NoMemory) h = tt
-one_among c next (Err (Refused refusal)) h = λ tokens w.
-    record { front = []; next = next; back = []; spelled = refl; breaks = subst (λ (ts : List Token). TokenBreaks ts next refusal) (sym (append-nil tokens)) (h tokens w) }
+pub one_among : (c : Checker) (next : Token) (commands : List PlainCommand) (r : Result Progress Stop) → IfErr r (λ e. IfRefused e (BreaksWith c next commands))
+    → IfErr r (λ e. IfRefused e (BreaksWithin c (next ∷ []) (next ∷ []) commands))
+one_among c next commands (Ok u) h = tt
+one_among c next commands (Err NoMemory) h = tt
+one_among c next commands (Err (Refused refusal)) h = λ tokens w.
+    record { front = []; next = next; back = []; spelled = refl; breaks = subst (λ (ts : List Token). TokenBreaks ts next commands refusal) (sym (append-nil tokens)) (h tokens w) }
 
 -- among the later tokens, after the first ones
-among_second : (tokens first second : List Token) (refusal : Refusal) → BreaksAmong (tokens ++ first) second refusal → BreaksAmong tokens (first ++ second) refusal
-among_second tokens first second refusal b = record {
+among_second : (tokens first second : List Token) (commands : List PlainCommand) (refusal : Refusal) → BreaksAmong (tokens ++ first) second commands refusal → BreaksAmong tokens (first ++ second) commands refusal
+among_second tokens first second commands refusal b = record {
   front = first ++ b.front;
   next = b.next;
   back = b.back;
   spelled = ap (λ (ts : List Token). first ++ ts) b.spelled ∙ sym (append_assoc first b.front (b.next ∷ b.back));
-  breaks = subst (λ (ts : List Token). TokenBreaks ts b.next refusal) (append_assoc tokens first b.front) b.breaks;
+  breaks = subst (λ (ts : List Token). TokenBreaks ts b.next commands refusal) (append_assoc tokens first b.front) b.breaks;
 }
 
 -- a token whose name is in the table adds nothing
@@ -141,8 +155,8 @@ fed_more c m n a o (Ok progress.More) first same h second = λ tokens w.
     (subst (λ (ns : List (List ℕ)). TakesTokens m (option_tokens ns o) (option_tokens ns o) n) same second (tokens ++ token_of c.scope.world.names a ∷ []) (second_after c m a o tokens first same h w))
 
 -- an `exit` among the first tokens is one among more
-pub exits_more : (tokens more : List Token) (count : ℕ) → Exits tokens count → Exits (tokens ++ more) count
-exits_more tokens more count x = record {
+pub exits_more : (tokens more : List Token) (commands : List PlainCommand) → Exits tokens commands → Exits (tokens ++ more) commands
+exits_more tokens more commands x = record {
   front = x.front;
   back = x.back ++ more;
   spelled = ap (λ (ts : List Token). ts ++ more) x.spelled ∙ append_assoc x.front x.back more;
@@ -151,37 +165,37 @@ exits_more tokens more count x = record {
   run = x.run;
   runs = x.runs;
   ends = x.ends;
-  counted = x.counted;
+  accepted = x.accepted;
 }
 
-pub fed_ends : (c m : Checker) (a : Tok) (o : Option Tok) (r : Result Progress Stop) (count : ℕ) → TakesTokens c (token_of c.scope.world.names a ∷ []) (token_of c.scope.world.names a ∷ []) m → m.scope.world.names ≡ c.scope.world.names → IsInterned c.scope.world.names o
-    → IfEnded r (ExitsWithin m (option_tokens m.scope.world.names o) (option_tokens m.scope.world.names o) count) → IfEnded r (ExitsWithin c (token_of c.scope.world.names a ∷ []) (token_of c.scope.world.names a ∷ option_tokens c.scope.world.names o) count)
-fed_ends c m a o (Err stop) count first same h second = tt
-fed_ends c m a o (Ok progress.More) count first same h second = tt
-fed_ends c m a o (Ok progress.Ended) count first same h second = λ tokens w.
-    subst (λ (ts : List Token). Exits ts count) (append_assoc tokens (token_of c.scope.world.names a ∷ []) (option_tokens c.scope.world.names o))
-    (subst (λ (ns : List (List ℕ)). ExitsWithin m (option_tokens ns o) (option_tokens ns o) count) same second (tokens ++ token_of c.scope.world.names a ∷ []) (second_after c m a o tokens first same h w))
+pub fed_ends : (c m : Checker) (a : Tok) (o : Option Tok) (r : Result Progress Stop) (commands : List PlainCommand) → TakesTokens c (token_of c.scope.world.names a ∷ []) (token_of c.scope.world.names a ∷ []) m → m.scope.world.names ≡ c.scope.world.names → IsInterned c.scope.world.names o
+    → IfEnded r (ExitsWithin m (option_tokens m.scope.world.names o) (option_tokens m.scope.world.names o) commands) → IfEnded r (ExitsWithin c (token_of c.scope.world.names a ∷ []) (token_of c.scope.world.names a ∷ option_tokens c.scope.world.names o) commands)
+fed_ends c m a o (Err stop) commands first same h second = tt
+fed_ends c m a o (Ok progress.More) commands first same h second = tt
+fed_ends c m a o (Ok progress.Ended) commands first same h second = λ tokens w.
+    subst (λ (ts : List Token). Exits ts commands) (append_assoc tokens (token_of c.scope.world.names a ∷ []) (option_tokens c.scope.world.names o))
+    (subst (λ (ns : List (List ℕ)). ExitsWithin m (option_tokens ns o) (option_tokens ns o) commands) same second (tokens ++ token_of c.scope.world.names a ∷ []) (second_after c m a o tokens first same h w))
 
-pub first_ends : (c : Checker) (a : Tok) (o : Option Tok) (count : ℕ) → ExitsWithin c (token_of c.scope.world.names a ∷ []) (token_of c.scope.world.names a ∷ []) count
-    → ExitsWithin c (token_of c.scope.world.names a ∷ []) (token_of c.scope.world.names a ∷ option_tokens c.scope.world.names o) count
-first_ends c a o count first tokens w =
-    subst (λ (ts : List Token). Exits ts count) (append_assoc tokens (token_of c.scope.world.names a ∷ []) (option_tokens c.scope.world.names o))
-    (exits_more (tokens ++ token_of c.scope.world.names a ∷ []) (option_tokens c.scope.world.names o) count (first tokens w))
+pub first_ends : (c : Checker) (a : Tok) (o : Option Tok) (commands : List PlainCommand) → ExitsWithin c (token_of c.scope.world.names a ∷ []) (token_of c.scope.world.names a ∷ []) commands
+    → ExitsWithin c (token_of c.scope.world.names a ∷ []) (token_of c.scope.world.names a ∷ option_tokens c.scope.world.names o) commands
+first_ends c a o commands first tokens w =
+    subst (λ (ts : List Token). Exits ts commands) (append_assoc tokens (token_of c.scope.world.names a ∷ []) (option_tokens c.scope.world.names o))
+    (exits_more (tokens ++ token_of c.scope.world.names a ∷ []) (option_tokens c.scope.world.names o) commands (first tokens w))
 
-pub first_breaks : (c : Checker) (a : Tok) (o : Option Tok) (e : Stop) → IfRefused e (BreaksWith c (token_of c.scope.world.names a))
-    → IfRefused e (BreaksWithin c (token_of c.scope.world.names a ∷ []) (token_of c.scope.world.names a ∷ option_tokens c.scope.world.names o))
-first_breaks c a o NoMemory h = tt
-first_breaks c a o (Refused refusal) h = λ tokens w.
-    record { front = []; next = token_of c.scope.world.names a; back = option_tokens c.scope.world.names o; spelled = refl; breaks = subst (λ (ts : List Token). TokenBreaks ts (token_of c.scope.world.names a) refusal) (sym (append-nil tokens)) (h tokens w) }
+pub first_breaks : (c : Checker) (a : Tok) (o : Option Tok) (commands : List PlainCommand) (e : Stop) → IfRefused e (BreaksWith c (token_of c.scope.world.names a) commands)
+    → IfRefused e (BreaksWithin c (token_of c.scope.world.names a ∷ []) (token_of c.scope.world.names a ∷ option_tokens c.scope.world.names o) commands)
+first_breaks c a o commands NoMemory h = tt
+first_breaks c a o commands (Refused refusal) h = λ tokens w.
+    record { front = []; next = token_of c.scope.world.names a; back = option_tokens c.scope.world.names o; spelled = refl; breaks = subst (λ (ts : List Token). TokenBreaks ts (token_of c.scope.world.names a) commands refusal) (sym (append-nil tokens)) (h tokens w) }
 
-pub second_breaks : (c m : Checker) (a : Tok) (o : Option Tok) (r : Result Progress Stop) → TakesTokens c (token_of c.scope.world.names a ∷ []) (token_of c.scope.world.names a ∷ []) m → m.scope.world.names ≡ c.scope.world.names → IsInterned c.scope.world.names o
-    → IfErr r (λ e. IfRefused e (BreaksWithin m (option_tokens m.scope.world.names o) (option_tokens m.scope.world.names o)))
-    → IfErr r (λ e. IfRefused e (BreaksWithin c (token_of c.scope.world.names a ∷ []) (token_of c.scope.world.names a ∷ option_tokens c.scope.world.names o)))
-second_breaks c m a o (Ok u) first same h second = tt
-second_breaks c m a o (Err NoMemory) first same h second = tt
-second_breaks c m a o (Err (Refused refusal)) first same h second = λ tokens w.
-    among_second tokens (token_of c.scope.world.names a ∷ []) (option_tokens c.scope.world.names o) refusal
-    (subst (λ (ns : List (List ℕ)). BreaksWithin m (option_tokens ns o) (option_tokens ns o) refusal) same second (tokens ++ token_of c.scope.world.names a ∷ []) (second_after c m a o tokens first same h w))
+pub second_breaks : (c m : Checker) (a : Tok) (o : Option Tok) (commands : List PlainCommand) (r : Result Progress Stop) → TakesTokens c (token_of c.scope.world.names a ∷ []) (token_of c.scope.world.names a ∷ []) m → m.scope.world.names ≡ c.scope.world.names → IsInterned c.scope.world.names o
+    → IfErr r (λ e. IfRefused e (BreaksWithin m (option_tokens m.scope.world.names o) (option_tokens m.scope.world.names o) commands))
+    → IfErr r (λ e. IfRefused e (BreaksWithin c (token_of c.scope.world.names a ∷ []) (token_of c.scope.world.names a ∷ option_tokens c.scope.world.names o) commands))
+second_breaks c m a o commands (Ok u) first same h second = tt
+second_breaks c m a o commands (Err NoMemory) first same h second = tt
+second_breaks c m a o commands (Err (Refused refusal)) first same h second = λ tokens w.
+    among_second tokens (token_of c.scope.world.names a ∷ []) (option_tokens c.scope.world.names o) commands refusal
+    (subst (λ (ns : List (List ℕ)). BreaksWithin m (option_tokens ns o) (option_tokens ns o) commands refusal) same second (tokens ++ token_of c.scope.world.names a ∷ []) (second_after c m a o tokens first same h w))
 
 -- the tokens of a byte whose first is this one
 first_is : (names : List (List ℕ)) (fed : Fed) (a : Tok) → fed.first ≡ Some a → fed_tokens names fed ≡ token_of names a ∷ option_tokens names fed.second

@@ -5,7 +5,7 @@ use Rattle.lex_core.specs.declared.place.Place.{Place}
 use Rattle.sig_table.specs.declared.code.Code.TheVariants.{UnclosedList}
 use Rattle.sexp_core.specs.Reading.{IsUnclosed}
 use Rattle.sexp_core.specs.Sexp.{Sexp}
-use Rattle.cmd_grammar.specs.Commands.{Command}
+use Rattle.term_store.specs.Command.{PlainCommand}
 use Rattle.script_core.specs.declared.refusal.Refusal.{Refusal}
 use Rattle.script_core.specs.Environment.{start}
 use Rattle.script_core.specs.Steps.{Cause, all_taken, exited, broken, Run, Runs}
@@ -41,7 +41,7 @@ IsFirstFault ended fault rest all_taken place = TextFault ended fault rest place
 IsFirstFault ended fault rest (broken here) place = place ≡ here
 
 -- the text so far is that of these accepted commands, and shows no fault
-pub record Sofar (bytes : List ℕ) (ended : Bool) (commands : List Command) : Type 0 where
+pub record Sofar (bytes : List ℕ) (ended : Bool) (commands : List PlainCommand) : Type 0 where
   pub fault : Option Place
   pub rest : ListsEnd
   pub run : Run
@@ -50,22 +50,24 @@ pub record Sofar (bytes : List ℕ) (ended : Bool) (commands : List Command) : T
   pub faultless : IsFaultless ended fault rest run.cause
 
 -- the whole text is a script of these commands
-abbrev pub Accepts : List ℕ → List Command → Type 0
+abbrev pub Accepts : List ℕ → List PlainCommand → Type 0
 Accepts bytes commands = Sofar bytes true commands
 
 -- where a refusal points
 abbrev pub place_of : Refusal → Place
 place_of refusal = record { code = refusal.rule; at = refusal.at }
 
--- The commands before the one that is named are accepted, none of them is `exit`, and that one is the first that breaks a rule.
-pub record Refuses (bytes : List ℕ) (ended : Bool) (refusal : Refusal) : Type 0 where
+-- The text is that of these accepted commands, none of them `exit`, and the one that is named comes after them and is the first that
+-- breaks a rule.
+pub record Refuses (bytes : List ℕ) (ended : Bool) (commands : List PlainCommand) (refusal : Refusal) : Type 0 where
   pub fault : Option Place
   pub rest : ListsEnd
   pub run : Run
   pub judged : Judged bytes ended fault rest run
-  pub number : refusal.command ≡ length run.commands + 1
+  pub accepted : commands ≡ run.commands
+  pub number : refusal.command ≡ length commands + 1
   pub first_fault : IsFirstFault ended fault rest run.cause (place_of refusal)
 
 -- the text is accepted so far, or it is refused
 abbrev pub SomeAnswer : List ℕ → Bool → Type 0
-SomeAnswer bytes ended = ((commands : List Command) × Sofar bytes ended commands) ⊎ ((refusal : Refusal) × Refuses bytes ended refusal)
+SomeAnswer bytes ended = (commands : List PlainCommand) × (Sofar bytes ended commands ⊎ ((refusal : Refusal) × Refuses bytes ended commands refusal))

@@ -7,7 +7,9 @@ use Rattle.lex_core.specs.declared.token.Tok.{Tok}
 use Rattle.sexp_core.specs.Reading.{IsList, Reads, TreeFault}
 use Rattle.sexp_core.specs.Sexp.{FlatToken, Sexp, flat, map_flat}
 use Rattle.sexp_core.specs.Tokens.{flat_token, flat_tokens}
-use Rattle.cmd_grammar.specs.Commands.{Command}
+use Rattle.term_store.specs.Command.{PlainCommand}
+use Rattle.term_store.specs.Definitions.{no_definitions}
+use Rattle.term_store.specs.Script.{commands_of}
 use Rattle.judgement.specs.Judging.{ill_sorted, well_sorted}
 use Rattle.typer.specs.Declarations.{declarations_of}
 use Rattle.scope_stack.specs.Environment.{Environment as Scopes}
@@ -22,7 +24,7 @@ use Rattle.script_core.specs.declared.refusal.Stop.TheVariants.{Refused, NoMemor
 use Rattle.script_core.specs.declared.scope.Scope.{Scope}
 use Rattle.script_core.specs.declared.scope.StepError.{StepError}
 use Rattle.script_core.specs.declared.scope.StepError.TheVariants as error
-use Rattle.script_core.specs.Acceptance.{Refuses, Sofar, place_of}
+use Rattle.script_core.specs.Acceptance.{Accepts, Refuses, Sofar, place_of}
 use Rattle.script_core.specs.Environment.{Environment, start}
 use Rattle.script_core.specs.Interned.{AreInterned}
 use Rattle.script_core.specs.Numbering.{table_after}
@@ -48,27 +50,30 @@ pub record IsReadyScope (scope : Scope) : Type 0 where
   pub ready : IsReady scope.world
   pub undeclared : scope.logic ≡ false → HasNone scope.world.scopes
 
--- The checker has taken these tokens, whose names are in the table `known`: their complete lists are accepted, and it keeps the
--- tokens of the unfinished one. Its own table may have the name of the next token besides.
+-- the commands that a checker has accepted
+abbrev pub accepted_by : Checker → List PlainCommand
+accepted_by checker = commands_of checker.scope.world.script
+
+-- The checker has taken these tokens, whose names are in the table `known`: their complete lists are accepted, and it keeps their
+-- commands, none of which defines anything, and the tokens of the unfinished list. Its own table may have the name of the next token besides.
 pub record Follows (known : List (List ℕ)) (tokens : List Token) (checker : Checker) : Type 0 where
   pub lists : List (Sexp Token)
-  pub commands : List Command
   -- the names after the complete lists
   pub names : List (List ℕ)
   pub reads : Reads (flat_tokens tokens) lists (texts_of checker.scope.world.names checker.builder.0)
   pub no_error : checker.builder.1 ≡ None
-  pub runs : Runs start lists (record { commands = commands; env = environment_of names checker.scope; cause = all_taken })
-  pub counted : checker.count ≡ length commands
+  pub runs : Runs start lists (record { commands = accepted_by checker; env = environment_of names checker.scope; cause = all_taken })
   pub interned : AreInterned checker.scope.world.names checker.builder.0
   pub table : known ≡ table_after names (texts_of checker.scope.world.names checker.builder.0)
+  pub undefined : checker.scope.world.script.defs ≡ no_definitions
   pub stands : IsReadyScope checker.scope
 
 -- the checker has taken these tokens, and its table has their names alone
 abbrev pub HasTokensOf : List Token → Checker → Type 0
 HasTokensOf tokens checker = Follows checker.scope.world.names tokens checker
 
--- the complete lists of these tokens begin with lists that are commands, the last of them `exit`
-pub record Exits (tokens : List Token) (count : ℕ) : Type 0 where
+-- the complete lists of these tokens begin with lists that are these commands, the last of them `exit`
+pub record Exits (tokens : List Token) (commands : List PlainCommand) : Type 0 where
   pub front : List Token
   pub back : List Token
   pub spelled : tokens ≡ front ++ back
@@ -77,12 +82,11 @@ pub record Exits (tokens : List Token) (count : ℕ) : Type 0 where
   pub run : Run
   pub runs : Runs start lists run
   pub ends : run.cause ≡ exited
-  pub counted : count ≡ length run.commands
+  pub accepted : commands ≡ run.commands
 
--- after tokens whose lists are accepted, the next one breaks a rule of lists, or completes a command that breaks a rule
-pub record TokenBreaks (tokens : List Token) (next : Token) (refusal : Refusal) : Type 0 where
+-- after tokens whose lists are these commands, the next one breaks a rule of lists, or completes a command that breaks a rule
+pub record TokenBreaks (tokens : List Token) (next : Token) (commands : List PlainCommand) (refusal : Refusal) : Type 0 where
   pub lists : List (Sexp Token)
-  pub commands : List Command
   pub env : Environment
   pub unfinished : List (FlatToken Token)
   pub reads : Reads (flat_tokens tokens) lists unfinished
@@ -92,12 +96,12 @@ pub record TokenBreaks (tokens : List Token) (next : Token) (refusal : Refusal) 
       ⊎ ((t : Sexp Token) × IsList t × (flat t ≡ unfinished ++ flat_token next ∷ []) × ListFault env t (place_of refusal))
 
 -- one of the new tokens is the first that breaks a rule
-pub record BreaksAmong (tokens new : List Token) (refusal : Refusal) : Type 0 where
+pub record BreaksAmong (tokens new : List Token) (commands : List PlainCommand) (refusal : Refusal) : Type 0 where
   pub front : List Token
   pub next : Token
   pub back : List Token
   pub spelled : new ≡ front ++ next ∷ back
-  pub breaks : TokenBreaks (tokens ++ front) next refusal
+  pub breaks : TokenBreaks (tokens ++ front) next commands refusal
 
 -- the fact holds where the script is refused
 abbrev pub IfRefused : Stop → (Refusal → Type 0) → Type 0
@@ -111,17 +115,11 @@ pub record HasTaken (bytes : List ℕ) (checker : Checker) : Type 0 where
   pub follows : HasTokensOf tokens checker
   pub table : IsNameTable checker.scope.world.names
   pub few_names : length checker.scope.world.names ≤ 57 + length bytes
-  pub few_commands : checker.count ≤ 2 * length bytes
+  pub few_commands : length (accepted_by checker) ≤ 2 * length bytes
 
--- the text is accepted so far, with this number of commands
-pub record SofarCount (bytes : List ℕ) (ended : Bool) (count : ℕ) : Type 0 where
-  pub commands : List Command
-  pub sofar : Sofar bytes ended commands
-  pub counted : count ≡ length commands
-
--- whatever comes after these bytes, the script ends in them, with this number of commands
-abbrev pub HasExited : List ℕ → ℕ → Type 0
-HasExited bytes count = (more : List ℕ) (ended : Bool) → SofarCount (bytes ++ more) ended count
+-- whatever comes after these bytes, the script ends in them, with these commands
+abbrev pub HasExited : List ℕ → List PlainCommand → Type 0
+HasExited bytes commands = (more : List ℕ) (ended : Bool) → Sofar (bytes ++ more) ended commands
 
 -- the checker has taken these tokens, and its table has the names of the next ones too
 pub record Awaits (tokens next : List Token) (checker : Checker) : Type 0 where
@@ -143,57 +141,66 @@ abbrev pub TakesTokens : Checker → List Token → List Token → Checker → T
 TakesTokens old next new checker = (tokens : List Token) → Awaits tokens next old → HasTokensOf (tokens ++ new) checker
 
 -- among these tokens more is the end of an accepted `exit`
-abbrev pub ExitsWithin : Checker → List Token → List Token → ℕ → Type 0
-ExitsWithin old next new count = (tokens : List Token) → Awaits tokens next old → Exits (tokens ++ new) count
+abbrev pub ExitsWithin : Checker → List Token → List Token → List PlainCommand → Type 0
+ExitsWithin old next new commands = (tokens : List Token) → Awaits tokens next old → Exits (tokens ++ new) commands
 
 -- with this token, or with one of these, the tokens break a rule
-abbrev pub BreaksWith : Checker → Token → Refusal → Type 0
-BreaksWith old next refusal = (tokens : List Token) → Awaits tokens (next ∷ []) old → TokenBreaks tokens next refusal
+abbrev pub BreaksWith : Checker → Token → List PlainCommand → Refusal → Type 0
+BreaksWith old next commands refusal = (tokens : List Token) → Awaits tokens (next ∷ []) old → TokenBreaks tokens next commands refusal
 
-abbrev pub BreaksWithin : Checker → List Token → List Token → Refusal → Type 0
-BreaksWithin old next new refusal = (tokens : List Token) → Awaits tokens next old → BreaksAmong tokens new refusal
+abbrev pub BreaksWithin : Checker → List Token → List Token → List PlainCommand → Refusal → Type 0
+BreaksWithin old next new commands refusal = (tokens : List Token) → Awaits tokens next old → BreaksAmong tokens new commands refusal
 
 -- with this byte more, the checker stands here
 abbrev pub TakesByte : Checker → ℕ → Checker → Type 0
 TakesByte old byte checker = (bytes : List ℕ) → HasTaken bytes old → HasTaken (bytes ++ byte ∷ []) checker
 
 -- with this byte an `exit` is accepted
-abbrev pub ExitsByte : Checker → ℕ → ℕ → Type 0
-ExitsByte old byte count = (bytes : List ℕ) → HasTaken bytes old → HasExited (bytes ++ byte ∷ []) count
+abbrev pub ExitsByte : Checker → ℕ → List PlainCommand → Type 0
+ExitsByte old byte commands = (bytes : List ℕ) → HasTaken bytes old → HasExited (bytes ++ byte ∷ []) commands
 
 -- with this byte the bytes are refused, whatever comes after it
-abbrev pub RefusesByte : Checker → ℕ → Refusal → Type 0
-RefusesByte old byte refusal = (bytes more : List ℕ) (ended : Bool) → HasTaken bytes old → Refuses ((bytes ++ byte ∷ []) ++ more) ended refusal
+abbrev pub RefusesByte : Checker → ℕ → List PlainCommand → Refusal → Type 0
+RefusesByte old byte commands refusal = (bytes more : List ℕ) (ended : Bool) → HasTaken bytes old → Refuses ((bytes ++ byte ∷ []) ++ more) ended commands refusal
 
 -- the same of a chunk of bytes
 abbrev pub TakesBytes : Checker → List ℕ → Checker → Type 0
 TakesBytes old piece checker = (bytes : List ℕ) → HasTaken bytes old → HasTaken (bytes ++ piece) checker
 
-abbrev pub ExitsBytes : Checker → List ℕ → ℕ → Type 0
-ExitsBytes old piece count = (bytes : List ℕ) → HasTaken bytes old → HasExited (bytes ++ piece) count
+abbrev pub ExitsBytes : Checker → List ℕ → List PlainCommand → Type 0
+ExitsBytes old piece commands = (bytes : List ℕ) → HasTaken bytes old → HasExited (bytes ++ piece) commands
 
-abbrev pub RefusesBytes : Checker → List ℕ → Refusal → Type 0
-RefusesBytes old piece refusal = (bytes more : List ℕ) (ended : Bool) → HasTaken bytes old → Refuses ((bytes ++ piece) ++ more) ended refusal
+abbrev pub RefusesBytes : Checker → List ℕ → List PlainCommand → Refusal → Type 0
+RefusesBytes old piece commands refusal = (bytes more : List ℕ) (ended : Bool) → HasTaken bytes old → Refuses ((bytes ++ piece) ++ more) ended commands refusal
 
--- the whole text is accepted, with this number of commands
-abbrev pub AcceptsText : Checker → ℕ → Type 0
-AcceptsText old count = (bytes : List ℕ) → HasTaken bytes old → SofarCount bytes true count
+-- the whole text is accepted, with these commands
+abbrev pub AcceptsText : Checker → List PlainCommand → Type 0
+AcceptsText old commands = (bytes : List ℕ) → HasTaken bytes old → Accepts bytes commands
 
--- the whole text is refused
-abbrev pub RefusesText : Checker → Refusal → Type 0
-RefusesText old refusal = (bytes : List ℕ) → HasTaken bytes old → Refuses bytes true refusal
+-- the whole text is refused after these commands
+abbrev pub RefusesText : Checker → List PlainCommand → Refusal → Type 0
+RefusesText old commands refusal = (bytes : List ℕ) → HasTaken bytes old → Refuses bytes true commands refusal
 
--- the tree is a command, which leads from old to new
-abbrev pub TakesTree : Environment → Sexp Tok → Progress → Environment → Type 0
-TakesTree old t progress.More new = (command : Command) × (declared : List ℕ) × judge_tree old t [] (well_sorted (command, new) declared) × (is_exit command ≡ false)
-TakesTree old t progress.Ended new = (command : Command) × (declared : List ℕ) × judge_tree old t [] (well_sorted (command, new) declared) × (is_exit command ≡ true)
+-- what follows an accepted command, by whether it is `exit`
+abbrev pub progress_of : Bool → Progress
+progress_of false = progress.More
+progress_of true = progress.Ended
+
+-- the tree is a command, which leads from old to new and is put last
+pub record TakesTree (old : Scope) (t : Sexp Tok) (goes : Progress) (new : Scope) : Type 0 where
+  pub command : PlainCommand
+  pub declared : List ℕ
+  pub judged : judge_tree (environment_of old.world.names old) t [] (well_sorted (command, environment_of old.world.names new) declared)
+  pub goes_on : goes ≡ progress_of (is_exit command)
+  pub put_last : commands_of new.world.script ≡ commands_of old.world.script ++ command ∷ []
+  pub defines_nothing : new.world.script.defs ≡ old.world.script.defs
 
 -- what the judging of a tree answers
-abbrev pub AnswersTree : Environment → Sexp Tok → Result Progress StepError → Environment → Type 0
-AnswersTree old t (Ok progress) new = TakesTree old t progress new
-AnswersTree old t (Err (error.Broken place)) new = judge_tree old t [] (ill_sorted place)
+abbrev pub AnswersTree : Scope → Sexp Tok → Result Progress StepError → Scope → Type 0
+AnswersTree old t (Ok goes) new = TakesTree old t goes new
+AnswersTree old t (Err (error.Broken place)) new = judge_tree (environment_of old.world.names old) t [] (ill_sorted place)
 AnswersTree old t (Err error.NoMemory) new = Unit {0}
 
 -- the tree breaks a rule, as the next command
 abbrev pub BreaksTree : Checker → Sexp Tok → Refusal → Type 0
-BreaksTree old t refusal = judge_tree (environment_of old.scope.world.names old.scope) t [] (ill_sorted (place_of refusal)) × (refusal.command ≡ old.count + 1)
+BreaksTree old t refusal = judge_tree (environment_of old.scope.world.names old.scope) t [] (ill_sorted (place_of refusal)) × (refusal.command ≡ length (accepted_by old) + 1)

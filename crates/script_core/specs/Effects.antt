@@ -1,12 +1,15 @@
 -- What the parts of a command answer, and what they lead to.
-use Rattle.std.specs.Prelude.{◌≡◌, ℕ, ◌<◌, Bool, false, IsTrue, List, [], length, map, Result, Ok, Err}
-use Rattle.judgement.specs.Judging.{Judging, ill_sorted, well_sorted}
+use Rattle.std.specs.Prelude.{◌≡◌, ℕ, ◌<◌, Bool, false, IsTrue, List, [], length, map, Some, Result, Ok, Err}
+use Rattle.sig_table.specs.declared.code.Code.TheVariants.{WrongCommandForm}
+use Rattle.judgement.specs.Judging.{Judging, find, ill_sorted, well_sorted}
 use Rattle.sort_store.specs.Interned.{Grows}
 use Rattle.sort_store.specs.Tree.{NumberedSort, tree}
 use Rattle.term_grammar.specs.Syntax.{Sort, Sorts, Term}
 use Rattle.cmd_grammar.specs.Commands.{Command, declare_const, declare_fun, declare_sort, define_sort, echo, exit, get_info, get_option, reset, set_info, set_logic, set_option}
 use Rattle.typer.specs.SortRules.{judge_sort, judge_sorts}
 use Rattle.typer.specs.TermRules.{judge_term}
+use Rattle.term_store.specs.declared.command.TypedCommand.{TypedCommand}
+use Rattle.term_store.specs.Command.{plain_command}
 use Rattle.term_store.specs.Term.{NumberedTerm, tree as term_tree}
 use Rattle.typer.specs.declared.error.TyError.{TyError}
 use Rattle.typer.specs.declared.error.TyError.TheVariants as ty
@@ -15,7 +18,7 @@ use Rattle.script_core.specs.declared.scope.Scope.{Scope}
 use Rattle.script_core.specs.declared.scope.StepError.{StepError}
 use Rattle.script_core.specs.declared.scope.StepError.TheVariants as error
 use Rattle.script_core.specs.Environment.{Environment, signature_in}
-use Rattle.script_core.specs.Rules.{judge_parts}
+use Rattle.script_core.specs.Rules.{judge_parts, unchanging}
 
 -- Ok has what the judgement leads to, a broken rule is its fault, and want of memory says nothing. No name is declared by an
 -- annotation.
@@ -24,9 +27,13 @@ Answers J value (Ok x) = J [] (well_sorted (value x) [])
 Answers J value (Err (error.Broken place)) = J [] (ill_sorted place)
 Answers J value (Err error.NoMemory) = Unit {0}
 
--- the command leads from old to new, or breaks a rule
-abbrev pub AnswersParts : Environment → Command → Result (Unit {0}) StepError → Environment → Type 0
-AnswersParts old command result new = Answers (judge_parts old command) (λ _. new) result
+-- the command, whose list begins at a byte, is kept as the typed command and leads from old to new, or breaks a rule
+abbrev pub AnswersParts : Environment → ℕ → Command → Result TypedCommand StepError → Environment → Type 0
+AnswersParts old at command result new = Answers (judge_parts old at command) (λ c. (plain_command c, new)) result
+
+-- the same of a command that changes nothing
+abbrev pub AnswersUnchanging : ℕ → Command → Result TypedCommand StepError → Type 0
+AnswersUnchanging at command result = Answers (find (λ c. unchanging command ≡ Some c) WrongCommandForm at) plain_command result
 
 -- the sort of a raw sort under the parameters of the command, the sorts of some raw sorts, and the typed term of a term
 abbrev pub AnswersSort : Environment → List ℕ → Sort → Result NumberedSort StepError → Type 0

@@ -1,25 +1,29 @@
 -- The rules of the commands that are built (SMT-LIB 2.6, sections 3.9 and 4.2): for each command the checks in their order,
--- and the environment that it leads to.
-use Rattle.std.specs.Prelude.{◌≡◌, ℕ, ◌+◌, ◌<◌, ◌≤◌, ◌^◌, ◌==◌, Bool, true, false, ◌&&◌, List, [], ◌∷◌, ◌++◌, length, map, IsTrue, if◌then◌else◌}
+-- the typed command that is kept, and the environment that it leads to.
+use Rattle.std.specs.Prelude.{◌≡◌, ℕ, ◌+◌, ◌<◌, ◌≤◌, ◌^◌, ◌==◌, Bool, true, false, ◌&&◌, List, [], ◌∷◌, ◌++◌, length, map, Option, Some, None, IsTrue, if◌then◌else◌}
 use Rattle.std.specs.List.{list_any}
 use Rattle.std.specs.Option.{is_some}
 use Rattle.lex_core.specs.declared.token.Tok.{Tok}
 use Rattle.sig_table.specs.declared.code.Code.TheVariants as code
 use Rattle.sexp_core.specs.Sexp.{Sexp, atom, list}
-use Rattle.judgement.specs.Judging.{Judging, ◌>>=◌, check, done, refuse}
-use Rattle.sort_store.specs.declared.head.Head.TheVariants as head
+use Rattle.judgement.specs.Judging.{Judging, ◌>>=◌, check, done, find, refuse}
+use Rattle.sort_store.specs.declared.head.DeclNo.{DeclNo}
+use Rattle.sort_store.specs.CoreRanks.{bool}
 use Rattle.sort_store.specs.Tree as tree
 use Rattle.scope_stack.specs.declared.entry.FunKind.TheVariants as kind
 use Rattle.term_grammar.specs.declared.words.TheConstants.{GLOBAL_DECLARATIONS, TRUE}
 use Rattle.term_grammar.specs.Syntax.{Attribute, keyword_attribute, valued_attribute, Term, constant, qualified_term, application, let_in, for_all, there_exists, match_with, annotated, Terms, no_terms, with_term, term_at}
 use Rattle.cmd_grammar.specs.DeclarationViews.{literal_term}
-use Rattle.cmd_grammar.specs.Commands.{Command, Literal, assert, check_sat_assuming, declare_const, declare_datatype, declare_datatypes, declare_fun, declare_sort, define_fun, define_fun_rec, define_funs_rec, define_sort, echo, exit, get_info, get_option, get_value, pop, push, reset, reset_assertions, set_info, set_logic, set_option}
+use Rattle.cmd_grammar.specs.Commands.{Command, Literal, assert, check_sat, check_sat_assuming, declare_const, declare_datatype, declare_datatypes, declare_fun, declare_sort, define_fun, define_fun_rec, define_funs_rec, define_sort, echo, exit, get_assertions, get_assignment, get_info, get_model, get_option, get_proof, get_unsat_assumptions, get_unsat_core, get_value, pop, push, reset, reset_assertions, set_info, set_logic, set_option}
 use Rattle.typer.specs.Numerals.{numeral_value}
 use Rattle.typer.specs.Declarations.{depth, free_sort, defined_sort, with_fun, with_global, with_popped, with_pushed, with_sort, without_assertions}
 use Rattle.typer.specs.SortRules.{judge_sort, judge_sorts}
 use Rattle.typer.specs.TermRules.{judge_term}
 use Rattle.typer.specs.FunctionSymbols.{is_fun_in_use, is_sort_in_use}
-use Rattle.term_store.specs.Term.{plain_sort}
+use Rattle.term_store.specs.Command.{PlainCommand}
+use Rattle.term_store.specs.Command as typed
+use Rattle.term_store.specs.Term.{PlainTerm, plain_sort}
+use Rattle.term_store.specs.Value.{unplaced}
 use Rattle.script_core.specs.Environment.{Environment, logic_theories, signature_in, start, text_of, theories_of}
 
 -- the commands that are built
@@ -117,61 +121,87 @@ after_option env (keyword_attribute k) = env
 after_option env (valued_attribute k v) =
     if k.name == GLOBAL_DECLARATIONS then record env { declarations = with_global (is_true v) env.declarations } else env
 
-abbrev pub is_bool : tree.Sort → Bool
-is_bool (tree.sort head.Bool ts) = true
-is_bool s = false
-
 -- the term is of sort Bool
-abbrev pub judge_bool : Environment → Term → Judging (Unit {0})
+abbrev pub judge_bool : Environment → Term → Judging PlainTerm
 judge_bool env t = do
   u ← judge_term (signature_in env) [] t
-  check (IsTrue (is_bool (plain_sort u))) code.WrongTermSort (term_at t)
+  _ ← check (plain_sort u ≡ bool) code.WrongTermSort (term_at t)
+  done u
 
 -- each literal, read as a term, is of sort Bool
-abbrev pub judge_literals : Environment → List Literal → Judging (Unit {0})
-judge_literals env [] = done tt
+abbrev pub judge_literals : Environment → List Literal → Judging (List PlainTerm)
+judge_literals env [] = done []
 judge_literals env (l ∷ ls) = do
-  _ ← judge_bool env (literal_term l)
-  judge_literals env ls
+  u ← judge_bool env (literal_term l)
+  us ← judge_literals env ls
+  done (u ∷ us)
 
--- The names, sorts and terms of the command, and what it leads to. A name that is in use is the first fault of a declaration.
--- `reset` forgets all but the names and the next number, since a number is never used again.
-abbrev pub judge_parts : Environment → Command → Judging Environment
-judge_parts env (assert t) = do
-  _ ← judge_bool env t
-  done env
-judge_parts env (check_sat_assuming ls) = do
-  _ ← judge_literals env ls
-  done env
-judge_parts env (declare_const n s) = do
+-- the value of an attribute, if it has one
+abbrev pub attribute_value : Attribute → Option (Sexp Tok)
+attribute_value (keyword_attribute k) = None
+attribute_value (valued_attribute k v) = Some (unplaced v)
+
+-- the typed command of one that has no names, sorts or terms to judge and changes nothing, if it is one
+abbrev pub unchanging : Command → Option PlainCommand
+unchanging check_sat = Some typed.check_sat
+unchanging (echo t) = Some (typed.echo t.name)
+unchanging exit = Some typed.exit
+unchanging get_assertions = Some typed.get_assertions
+unchanging get_assignment = Some typed.get_assignment
+unchanging (get_info k) = Some (typed.get_info k.name)
+unchanging get_model = Some typed.get_model
+unchanging (get_option k) = Some (typed.get_option k.name)
+unchanging get_proof = Some typed.get_proof
+unchanging get_unsat_assumptions = Some typed.get_unsat_assumptions
+unchanging get_unsat_core = Some typed.get_unsat_core
+unchanging (set_info a) = Some (typed.set_info (attribute_key a).name (attribute_value a))
+unchanging command = None
+
+-- the number of the next declaration
+abbrev pub next_number : Environment → DeclNo
+next_number env = record { 0 = env.next }
+
+-- The names, sorts and terms of the command whose list begins at this byte, with the typed command that is kept and what it leads
+-- to. A name that is in use is the first fault of a declaration. `reset` forgets all but the names and the next number, since a
+-- number is never used again.
+abbrev pub judge_parts : Environment → ℕ → Command → Judging (PlainCommand × Environment)
+judge_parts env at (assert t) = do
+  u ← judge_bool env t
+  done (typed.assert u, env)
+judge_parts env at (check_sat_assuming ls) = do
+  us ← judge_literals env ls
+  done (typed.check_sat_assuming us, env)
+judge_parts env at (declare_const n s) = do
   _ ← check (is_fun_in_use (signature_in env) n.name ≡ false) code.FunctionNameInUse n.at
   result ← judge_sort env.names env.declarations env.theories [] s
-  done (with_function env n.name [] result)
-judge_parts env (declare_fun n ss s) = do
+  done (typed.declare_const (next_number env) n.name result, with_function env n.name [] result)
+judge_parts env at (declare_fun n ss s) = do
   _ ← check (is_fun_in_use (signature_in env) n.name ≡ false) code.FunctionNameInUse n.at
   args ← judge_sorts env.names env.declarations env.theories [] ss
   result ← judge_sort env.names env.declarations env.theories [] s
-  done (with_function env n.name args result)
-judge_parts env (declare_sort n a) = do
+  done (typed.declare_fun (next_number env) n.name args result, with_function env n.name args result)
+judge_parts env at (declare_sort n a) = do
   _ ← check (is_sort_in_use (signature_in env) n.name ≡ false) code.SortNameInUse n.at
   _ ← check (value_of env a < 2 ^ 32) code.NumberTooLarge a.at
-  done (with_free_sort env n.name (value_of env a))
-judge_parts env (define_sort n ps s) = do
+  done (typed.declare_sort (next_number env) n.name (value_of env a), with_free_sort env n.name (value_of env a))
+judge_parts env at (define_sort n ps s) = do
   _ ← check (is_sort_in_use (signature_in env) n.name ≡ false) code.SortNameInUse n.at
   _ ← judge_params [] ps
   body ← judge_sort env.names env.declarations env.theories (map (λ p. p.name) ps) s
-  done (with_defined_sort env n.name (length ps) body)
-judge_parts env (set_logic n) = done (record env { logic = true; theories = theories_of env n })
-judge_parts env (set_option a) = done (after_option env a)
-judge_parts env (push n) = done (record env { declarations = with_pushed (value_of env n) env.declarations })
-judge_parts env (pop n) = done (record env { declarations = with_popped (value_of env n) env.declarations })
-judge_parts env reset = done (record start { names = env.names; next = env.next })
-judge_parts env reset_assertions = done (record env { declarations = without_assertions env.declarations })
-judge_parts env command = done env
+  done (typed.define_sort n.name (map (λ p. p.name) ps) body, with_defined_sort env n.name (length ps) body)
+judge_parts env at (set_logic n) = done (typed.set_logic n.name, record env { logic = true; theories = theories_of env n })
+judge_parts env at (set_option a) = done (typed.set_option (attribute_key a).name (attribute_value a), after_option env a)
+judge_parts env at (push n) = done (typed.push (value_of env n), record env { declarations = with_pushed (value_of env n) env.declarations })
+judge_parts env at (pop n) = done (typed.pop (value_of env n), record env { declarations = with_popped (value_of env n) env.declarations })
+judge_parts env at reset = done (typed.reset, record start { names = env.names; next = env.next })
+judge_parts env at reset_assertions = done (typed.reset_assertions, record env { declarations = without_assertions env.declarations })
+judge_parts env at command = do
+  c ← find (λ c. unchanging command ≡ Some c) code.WrongCommandForm at
+  done (c, env)
 
 -- the command whose list begins at this byte
-abbrev pub judge_command : Environment → ℕ → Command → Judging Environment
+abbrev pub judge_command : Environment → ℕ → Command → Judging (PlainCommand × Environment)
 judge_command env at command = do
   _ ← judge_form at command
   _ ← judge_mode env at command
-  judge_parts env command
+  judge_parts env at command

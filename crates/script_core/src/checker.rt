@@ -1,10 +1,11 @@
 //! A checker of a text that comes byte by byte.
-ghost use Rattle.std.specs.Prelude.{◌≡◌, ◌+◌, ◌-◌, ◌<◌, ◌≤◌, ◌^◌, ◌∷◌, [], ℕ, List, length, take, IfErr, IfOk, OnOk};
+ghost use Rattle.std.specs.Prelude.{◌≡◌, ◌+◌, ◌-◌, ◌<◌, ◌≤◌, ◌^◌, ◌∷◌, [], ℕ, List, length, take, IfErr, IfOk, OnErr, OnOk};
 ghost use Rattle.lex_core.specs.NameTable.{IsNameTable};
 ghost use Rattle.lex_core.specs.Token.{IsInterned, Token, fed_tokens, option_tokens, token_of};
 ghost use Rattle.sexp_core.specs.Sexp.{flat};
+ghost use Rattle.term_store.specs.SoundScript.{IsSound};
 ghost use Rattle.script_core.specs.Interned.{AreInterned};
-ghost use Rattle.script_core.specs.Checking.{Awaits, BreaksTree, BreaksWith, BreaksWithin, HasTaken, IfEnded, IfMore, IfRefused, IsReadyScope, environment_of};
+ghost use Rattle.script_core.specs.Checking.{Awaits, BreaksTree, BreaksWith, BreaksWithin, HasTaken, IfEnded, IfMore, IfRefused, IsReadyScope, accepted_by};
 ghost use Rattle.script_core.specs.Checking.{AcceptsText, ExitsByte, ExitsBytes, ExitsWithin, RefusesByte, RefusesBytes, RefusesText, TakesByte, TakesBytes, TakesTokens, TakesTree};
 
 use crate::refusal::{Progress, Refusal, Stop};
@@ -22,8 +23,6 @@ pub struct Checker {
     pub lexer: Lexer,
     pub builder: Builder,
     pub scope: Scope,
-    /// The number of accepted commands.
-    pub count: u32,
 }
 
 // What every table of names is.
@@ -36,7 +35,8 @@ fn known_table(names: &Names)
 impl Checker {
     /// A checker that has taken nothing.
     pub fn new(alloc: Global) -> Result<Checker, NoMemory>
-        ensures { IfOk result (λ checker. HasTaken [] checker) }
+        ensures taken { IfOk result (λ checker. HasTaken [] checker) }
+        ensures sound { IfOk result (λ checker. IsSound checker.scope.world.script) }
     {
         let world = World::new(alloc)?;
         known_table(&world.names);
@@ -49,17 +49,16 @@ impl Checker {
                 next: 0,
                 alloc,
             },
-            count: 0,
         })
     }
 
     // The refusal of the next command, at this place.
     fn refusal(&self, place: Place) -> Stop
-        requires { self.now.count < 2 ^ 32 - 1 }
-        ensures { result ≡ Stop.Refused (record { command = self.now.count + 1; at = place.at; rule = place.code }) }
+        requires { length (accepted_by self.now) < 2 ^ 32 - 1 }
+        ensures { result ≡ Stop.Refused (record { command = length (accepted_by self.now) + 1; at = place.at; rule = place.code }) }
     {
         Stop::Refused(Refusal {
-            command: self.count + 1,
+            command: self.scope.world.script.len() as u32 + 1,
             at: place.at,
             rule: place.code,
         })
@@ -69,20 +68,16 @@ impl Checker {
     fn take_list(&mut self, tree: &Tree) -> Result<Progress, Stop>
         requires interned { AreInterned self.old.scope.world.names (flat tree.now) }
         requires stands { IsReadyScope self.old.scope }
-        requires few { self.old.count < 2 ^ 32 - 1 }
-        ensures ok { IfOk result (λ progress. let env = environment_of self.old.scope.world.names in
-            TakesTree (env self.old.scope) tree.now progress (env self.new.scope)) }
+        requires few { length (accepted_by self.old) + 1 < 2 ^ 32 - 1 }
+        ensures ok { IfOk result (λ progress. TakesTree self.old.scope tree.now progress self.new.scope) }
         ensures refused { IfErr result (λ e. IfRefused e (BreaksTree self.old tree.now)) }
         ensures stands { OnOk result (IsReadyScope self.new.scope) }
-        ensures counted { OnOk result (self.new.count ≡ self.old.count + 1) }
-        ensures uncounted { IfErr result (λ e. self.new.count ≡ self.old.count) }
+        ensures script { OnErr result (self.new.scope.world.script ≡ self.old.scope.world.script) }
+        ensures counted { length (accepted_by self.new) ≤ length (accepted_by self.old) + 1 }
         ensures same { (self.new.scope.world.names ≡ self.old.scope.world.names) × (self.new.lexer ≡ self.old.lexer) × (self.new.builder ≡ self.old.builder) }
     {
         match take_tree(&mut self.scope, tree) {
-            Ok(progress) => {
-                self.count += 1;
-                Ok(progress)
-            }
+            Ok(progress) => Ok(progress),
             Err(StepError::NoMemory) => Err(Stop::NoMemory),
             Err(StepError::Broken(place)) => Err(self.refusal(place)),
         }
@@ -93,15 +88,16 @@ impl Checker {
         requires awaits { (tokens : List Token) × Awaits tokens (token_of self.old.scope.world.names tok ∷ []) self.old }
         requires table { IsNameTable self.old.scope.world.names }
         requires interned { tok.name < length self.old.scope.world.names }
+        requires sound { IsSound self.old.scope.world.script }
         requires short { length self.old.builder.0 < 2 ^ 31 }
-        requires few { self.old.count < 2 ^ 32 - 1 }
+        requires few { length (accepted_by self.old) + 1 < 2 ^ 32 - 1 }
         ensures more { let next = token_of self.old.scope.world.names tok in
             IfMore result (TakesTokens self.old (next ∷ []) (next ∷ []) self.new) }
         ensures ended { let next = token_of self.old.scope.world.names tok in
-            IfEnded result (ExitsWithin self.old (next ∷ []) (next ∷ []) self.new.count) }
-        ensures refused { IfErr result (λ e. IfRefused e (BreaksWith self.old (token_of self.old.scope.world.names tok))) }
-        ensures number { IfErr result (λ e. IfRefused e (λ refusal. refusal.command ≡ self.new.count + 1)) }
-        ensures counted { self.new.count ≤ self.old.count + 1 }
+            IfEnded result (ExitsWithin self.old (next ∷ []) (next ∷ []) (accepted_by self.new)) }
+        ensures refused { IfErr result (λ e. IfRefused e (BreaksWith self.old (token_of self.old.scope.world.names tok) (accepted_by self.new))) }
+        ensures counted { length (accepted_by self.new) ≤ length (accepted_by self.old) + 1 }
+        ensures sound { IsSound self.new.scope.world.script }
         ensures longer { IfMore result (length self.new.builder.0 ≤ length self.old.builder.0 + 1) }
         ensures same { (self.new.scope.world.names ≡ self.old.scope.world.names) × (self.new.lexer ≡ self.old.lexer) }
     {
@@ -118,13 +114,14 @@ impl Checker {
         requires awaits { (tokens : List Token) × Awaits tokens (option_tokens self.old.scope.world.names tok) self.old }
         requires table { IsNameTable self.old.scope.world.names }
         requires interned { IsInterned self.old.scope.world.names tok }
+        requires sound { IsSound self.old.scope.world.script }
         requires short { length self.old.builder.0 < 2 ^ 31 }
-        requires few { self.old.count < 2 ^ 32 - 1 }
+        requires few { length (accepted_by self.old) + 1 < 2 ^ 32 - 1 }
         ensures more { let next = option_tokens self.old.scope.world.names tok in IfMore result (TakesTokens self.old next next self.new) }
-        ensures ended { let next = option_tokens self.old.scope.world.names tok in IfEnded result (ExitsWithin self.old next next self.new.count) }
-        ensures refused { let next = option_tokens self.old.scope.world.names tok in IfErr result (λ e. IfRefused e (BreaksWithin self.old next next)) }
-        ensures number { IfErr result (λ e. IfRefused e (λ refusal. refusal.command ≡ self.new.count + 1)) }
-        ensures counted { self.new.count ≤ self.old.count + 1 }
+        ensures ended { let next = option_tokens self.old.scope.world.names tok in IfEnded result (ExitsWithin self.old next next (accepted_by self.new)) }
+        ensures refused { let next = option_tokens self.old.scope.world.names tok in IfErr result (λ e. IfRefused e (BreaksWithin self.old next next (accepted_by self.new))) }
+        ensures counted { length (accepted_by self.new) ≤ length (accepted_by self.old) + 1 }
+        ensures sound { IsSound self.new.scope.world.script }
         ensures longer { IfMore result (length self.new.builder.0 ≤ length self.old.builder.0 + 1) }
         ensures same { (self.new.scope.world.names ≡ self.old.scope.world.names) × (self.new.lexer ≡ self.old.lexer) }
     {
@@ -139,14 +136,15 @@ impl Checker {
         requires awaits { (tokens : List Token) × Awaits tokens (take 1 (fed_tokens self.old.scope.world.names fed)) self.old }
         requires table { IsNameTable self.old.scope.world.names }
         requires interned { IsInterned self.old.scope.world.names fed.first × IsInterned self.old.scope.world.names fed.second }
+        requires sound { IsSound self.old.scope.world.script }
         requires short { length self.old.builder.0 + 1 < 2 ^ 31 }
-        requires few { self.old.count + 1 < 2 ^ 32 - 1 }
+        requires few { length (accepted_by self.old) + 2 < 2 ^ 32 - 1 }
         ensures more { let all = fed_tokens self.old.scope.world.names fed in IfMore result (TakesTokens self.old (take 1 all) all self.new) }
-        ensures ended { let all = fed_tokens self.old.scope.world.names fed in IfEnded result (ExitsWithin self.old (take 1 all) all self.new.count) }
+        ensures ended { let all = fed_tokens self.old.scope.world.names fed in IfEnded result (ExitsWithin self.old (take 1 all) all (accepted_by self.new)) }
         ensures refused { let all = fed_tokens self.old.scope.world.names fed in
-            IfErr result (λ e. IfRefused e (BreaksWithin self.old (take 1 all) all)) }
-        ensures number { IfErr result (λ e. IfRefused e (λ refusal. refusal.command ≡ self.new.count + 1)) }
-        ensures counted { self.new.count ≤ self.old.count + 2 }
+            IfErr result (λ e. IfRefused e (BreaksWithin self.old (take 1 all) all (accepted_by self.new))) }
+        ensures sound { IsSound self.new.scope.world.script }
+        ensures counted { length (accepted_by self.new) ≤ length (accepted_by self.old) + 2 }
         ensures same { (self.new.scope.world.names ≡ self.old.scope.world.names) × (self.new.lexer ≡ self.old.lexer) }
     {
         let Fed { first, second } = fed;
@@ -163,11 +161,12 @@ impl Checker {
     /// Takes the next byte. `Refused` comes exactly where the bytes so far, without their end, are refused, and `Ended` exactly
     /// where an `exit` ends with this byte.
     pub fn take_byte(&mut self, byte: u8) -> Result<Progress, Stop>
+        requires sound { IsSound self.old.scope.world.script }
         requires taken { (bytes : List ℕ) × HasTaken bytes self.old × (length bytes < 2 ^ 30) }
         ensures more { IfMore result (TakesByte self.old byte self.new) }
-        ensures ended { IfEnded result (ExitsByte self.old byte self.new.count) }
-        ensures refused { IfErr result (λ e. IfRefused e (RefusesByte self.old byte)) }
-        ensures number { IfErr result (λ e. IfRefused e (λ refusal. refusal.command ≡ self.new.count + 1)) }
+        ensures ended { IfEnded result (ExitsByte self.old byte (accepted_by self.new)) }
+        ensures refused { IfErr result (λ e. IfRefused e (RefusesByte self.old byte (accepted_by self.new))) }
+        ensures sound { IsSound self.new.scope.world.script }
     {
         let fed = self.lexer.feed(&mut self.scope.world.names, byte);
         known_table(&self.scope.world.names);
@@ -184,11 +183,12 @@ impl Checker {
 
     /// Takes bytes one after the other, up to the first that is refused or ends the script. The bytes after it are dropped.
     pub fn take_bytes(&mut self, piece: &[u8]) -> Result<Progress, Stop>
+        requires sound { IsSound self.old.scope.world.script }
         requires taken { (bytes : List ℕ) × HasTaken bytes self.old × (length bytes + length piece.now ≤ 2 ^ 30) }
         ensures more { IfMore result (TakesBytes self.old piece.now self.new) }
-        ensures ended { IfEnded result (ExitsBytes self.old piece.now self.new.count) }
-        ensures refused { IfErr result (λ e. IfRefused e (RefusesBytes self.old piece.now)) }
-        ensures number { IfErr result (λ e. IfRefused e (λ refusal. refusal.command ≡ self.new.count + 1)) }
+        ensures ended { IfEnded result (ExitsBytes self.old piece.now (accepted_by self.new)) }
+        ensures refused { IfErr result (λ e. IfRefused e (RefusesBytes self.old piece.now (accepted_by self.new))) }
+        ensures sound { IsSound self.new.scope.world.script }
     {
         for byte in piece {
             match self.take_byte(*byte) {
@@ -202,10 +202,11 @@ impl Checker {
 
     /// Takes the end. `Refused` comes exactly where the whole text is refused.
     pub fn take_end(&mut self) -> Result<(), Stop>
+        requires sound { IsSound self.old.scope.world.script }
         requires taken { (bytes : List ℕ) × HasTaken bytes self.old × (length bytes ≤ 2 ^ 30) }
-        ensures ok { OnOk result (AcceptsText self.old self.new.count) }
-        ensures refused { IfErr result (λ e. IfRefused e (RefusesText self.old)) }
-        ensures number { IfErr result (λ e. IfRefused e (λ refusal. refusal.command ≡ self.new.count + 1)) }
+        ensures ok { OnOk result (AcceptsText self.old (accepted_by self.new)) }
+        ensures refused { IfErr result (λ e. IfRefused e (RefusesText self.old (accepted_by self.new))) }
+        ensures sound { IsSound self.new.scope.world.script }
     {
         let left = self.lexer.finish(&mut self.scope.world.names);
         known_table(&self.scope.world.names);

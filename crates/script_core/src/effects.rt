@@ -1,7 +1,8 @@
 //! What the commands that change something make of the environment, once their form and mode are judged (SMT-LIB 2.6,
 //! sections 4.1 and 4.2).
-ghost use Rattle.std.specs.Prelude.{◌≡◌, ◌==◌, ◌<◌, [], true, false, length, map, IfErr, IfOk, IsTrue, OnOk};
+ghost use Rattle.std.specs.Prelude.{◌≡◌, ◌↔◌, ◌==◌, ◌<◌, [], true, false, length, map, IfErr, IfOk, IsTrue, OnOk};
 ghost use Rattle.std.specs.List.{All, list_any};
+ghost use Rattle.sort_store.specs.CoreRanks.{bool};
 ghost use Rattle.sort_store.specs.Tree.{tree};
 ghost use Rattle.cmd_grammar.specs.CommandViews.{command_from};
 ghost use Rattle.cmd_grammar.specs.Commands as command;
@@ -10,13 +11,14 @@ ghost use Rattle.typer.specs.SortSymbols.{is_theory_sort};
 ghost use Rattle.typer.specs.Declarations.{without_assertions};
 ghost use Rattle.term_store.specs.Term.{plain_sort, tree as term_tree};
 ghost use Rattle.script_core.specs.Environment.{start, theories_of};
-ghost use Rattle.script_core.specs.Rules.{after_option, judge_bool, judge_params, is_bool as is_bool_sort, is_true as is_true_value, with_defined_sort, with_free_sort, with_function};
+ghost use Rattle.script_core.specs.Rules.{after_option, judge_bool, judge_params, is_true as is_true_value, with_defined_sort, with_free_sort, with_function};
 ghost use Rattle.script_core.specs.Effects.{Answers, AnswersParts, AnswersSort, AnswersSorts, AnswersTerm, IsDeclaredNamed, IsInMode, IsSameTo, OnlySortsGrow, step_error_of};
 ghost use Rattle.script_core.specs.Checking.{IsReadyScope, environment_of};
 
 use crate::logic::{core_alone, logic_theories};
-use crate::rules::{text_of, value_of};
+use crate::rules::{attribute_key, text_of, value_of};
 use crate::scope::{Scope, StepError};
+use crate::unchanging::{attribute_value, unchanging};
 use cmd_grammar::{RawCommandKind, RawLiterals};
 use lex_core::{NameId, Place, Tok};
 use scope_stack::{FunEntry, FunKind, SortEntry};
@@ -27,7 +29,7 @@ use term_grammar::{
     GLOBAL_DECLARATIONS, RawAttribute, RawAttributeKind, RawSort, RawSorts, RawSymbols, RawTerm,
     RawValue, RawValueKind, TRUE,
 };
-use term_store::TermRef;
+use term_store::{ListOf, TermRef, TypedCommand};
 use typer::{TyError, is_fun_in_use, is_sort_in_use, type_sort, type_sorts, type_term};
 
 fn broken(code: Code, at: u32) -> StepError
@@ -74,6 +76,34 @@ fn list_of(alloc: Global, sorts: Vec<SortRef>) -> Result<Sorts, StepError>
     Ok(list)
 }
 
+// The same sort once more. The only error is that memory runs out.
+fn copy_of(sort: &SortRef) -> Result<SortRef, StepError>
+    ensures ok { IfOk result (λ r. r ≡ sort.now) }
+    ensures err { IfErr result (λ e. e ≡ StepError.NoMemory) }
+{
+    match sort.clone() {
+        Ok(sort) => Ok(sort),
+        Err(_) => Err(StepError::NoMemory),
+    }
+}
+
+// The same sorts once more. The only error is that memory runs out.
+fn copies_of(alloc: Global, sorts: &Sorts) -> Result<Sorts, StepError>
+    ensures ok { IfOk result (λ list. list ≡ sorts.now) }
+    ensures err { IfErr result (λ e. e ≡ StepError.NoMemory) }
+{
+    let items = sorts.as_slice();
+    let mut list = Sorts::new(alloc);
+    for sort in items {
+        let copy = copy_of(sort)?;
+        match list.push(copy) {
+            Ok(()) => {}
+            Err(_) => return Err(StepError::NoMemory),
+        }
+    }
+    Ok(list)
+}
+
 // The sorts that raw sorts stand for.
 fn sorts_of(scope: &mut Scope, raws: RawSorts) -> Result<Sorts, StepError>
     requires stands { IsReadyScope scope.old }
@@ -93,6 +123,7 @@ fn term_of(scope: &mut Scope, term: RawTerm) -> Result<TermRef, StepError>
     requires stands { IsReadyScope scope.old }
     ensures answer { AnswersTerm (environment_of scope.old.world.names scope.old) term.entry result }
     ensures same { IsSameTo scope.old scope.new }
+    ensures script { scope.new.world.script ≡ scope.old.world.script }
     ensures stands { IsReadyScope scope.new }
 {
     match type_term(&mut scope.world, &[], term) {
@@ -102,16 +133,21 @@ fn term_of(scope: &mut Scope, term: RawTerm) -> Result<TermRef, StepError>
 }
 
 fn is_bool(term: &TermRef) -> bool
-    ensures { result ≡ is_bool_sort (plain_sort (term_tree term.now)) }
+    ensures { IsTrue result ↔ (plain_sort (term_tree term.now) ≡ bool) }
 {
-    matches!(term.sort().head(), Head::Bool)
+    let sort = term.sort();
+    match sort.head() {
+        Head::Bool => sort.arg_count() == 0,
+        _ => false,
+    }
 }
 
-// The term is of sort Bool.
-fn bool_term(scope: &mut Scope, term: RawTerm) -> Result<(), StepError>
+// The typed term of a term, which is of sort Bool.
+fn bool_term(scope: &mut Scope, term: RawTerm) -> Result<TermRef, StepError>
     requires stands { IsReadyScope scope.old }
-    ensures answer { Answers (judge_bool (environment_of scope.old.world.names scope.old) term.entry) (λ u. u) result }
+    ensures answer { Answers (judge_bool (environment_of scope.old.world.names scope.old) term.entry) term_tree result }
     ensures same { IsSameTo scope.old scope.new }
+    ensures script { scope.new.world.script ≡ scope.old.world.script }
     ensures stands { IsReadyScope scope.new }
 {
     let at = term.at();
@@ -119,42 +155,54 @@ fn bool_term(scope: &mut Scope, term: RawTerm) -> Result<(), StepError>
     if !is_bool(&term) {
         return Err(broken(Code::WrongTermSort, at));
     }
-    Ok(())
+    Ok(term)
 }
 
-fn assertion(scope: &mut Scope, term: RawTerm) -> Result<(), StepError>
+fn assertion(scope: &mut Scope, at: u32, term: RawTerm) -> Result<TypedCommand, StepError>
     requires stands { IsReadyScope scope.old }
     ensures answer { let names = scope.old.world.names in
-        AnswersParts (environment_of names scope.old) (command.assert term.entry) result (environment_of names scope.new) }
+        AnswersParts (environment_of names scope.old) at (command.assert term.entry) result (environment_of names scope.new) }
     ensures names { scope.new.world.names ≡ scope.old.world.names }
+    ensures script { scope.new.world.script ≡ scope.old.world.script }
     ensures stands { IsReadyScope scope.new }
 {
-    bool_term(scope, term)
+    let term = bool_term(scope, term)?;
+    Ok(TypedCommand::Assert { term })
 }
 
 // Each literal, read as a term, is of sort Bool.
-fn assumptions(scope: &mut Scope, literals: &RawLiterals) -> Result<(), StepError>
+fn assumptions(
+    scope: &mut Scope,
+    at: u32,
+    literals: &RawLiterals,
+) -> Result<TypedCommand, StepError>
     requires stands { IsReadyScope scope.old }
     ensures answer { let names = scope.old.world.names in
-        AnswersParts (environment_of names scope.old) (command.check_sat_assuming literals.now) result (environment_of names scope.new) }
+        AnswersParts (environment_of names scope.old) at (command.check_sat_assuming literals.now) result (environment_of names scope.new) }
     ensures names { scope.new.world.names ≡ scope.old.world.names }
+    ensures script { scope.new.world.script ≡ scope.old.world.script }
     ensures stands { IsReadyScope scope.new }
 {
+    let mut terms: ListOf<TermRef> = ListOf::new(scope.alloc);
     let mut next = literals.split();
     while let Some((first, rest)) = next {
-        bool_term(scope, first.term())?;
+        let term = bool_term(scope, first.term())?;
+        match terms.push(term) {
+            Ok(()) => {}
+            Err(_) => return Err(StepError::NoMemory),
+        }
         next = rest.split();
     }
-    Ok(())
+    Ok(TypedCommand::CheckSatAssuming { terms })
 }
 
-// Declares a function symbol under the next number. The only error is that memory runs out.
+// Declares a function symbol under the next number, which it answers. The only error is that memory runs out.
 fn add_function(
     scope: &mut Scope,
     name: NameId,
     args: Sorts,
     sort: SortRef,
-) -> Result<(), StepError>
+) -> Result<DeclNo, StepError>
     requires stands { IsReadyScope scope.old }
     requires logic { IsTrue scope.old.logic }
     requires named { name < length scope.old.world.names }
@@ -162,15 +210,18 @@ fn add_function(
     requires sort { IsReadySchema scope.old.world.names scope.old.world.sorts 0 sort }
     ensures effect { let names = scope.old.world.names in
         OnOk result (environment_of names scope.new ≡ with_function (environment_of names scope.old) name (map tree args) (tree sort)) }
+    ensures number { IfOk result (λ no. no ≡ record { 0 = scope.old.next }) }
     ensures error { IfErr result (λ e. e ≡ StepError.NoMemory) }
     ensures names { scope.new.world.names ≡ scope.old.world.names }
+    ensures script { scope.new.world.script ≡ scope.old.world.script }
     ensures stands { IsReadyScope scope.new }
 {
     let Some(next) = scope.next.checked_add(1) else {
         return Err(StepError::NoMemory);
     };
+    let no = DeclNo(scope.next);
     let entry = FunEntry {
-        no: DeclNo(scope.next),
+        no,
         kind: FunKind::Free,
         params: 0,
         args,
@@ -179,40 +230,54 @@ fn add_function(
     match scope.world.scopes.declare_fun(name, entry) {
         Ok(()) => {
             scope.next = next;
-            Ok(())
+            Ok(no)
         }
         Err(_) => Err(StepError::NoMemory),
     }
 }
 
-fn declare_const(scope: &mut Scope, name: &Tok, sort: RawSort) -> Result<(), StepError>
+fn declare_const(
+    scope: &mut Scope,
+    at: u32,
+    name: &Tok,
+    sort: RawSort,
+) -> Result<TypedCommand, StepError>
     requires stands { IsReadyScope scope.old }
     requires logic { IsTrue scope.old.logic }
     requires named { name.now.name < length scope.old.world.names }
     ensures answer { let names = scope.old.world.names in
-        AnswersParts (environment_of names scope.old) (command.declare_const name.now sort.entry) result (environment_of names scope.new) }
+        AnswersParts (environment_of names scope.old) at (command.declare_const name.now sort.entry) result (environment_of names scope.new) }
     ensures names { scope.new.world.names ≡ scope.old.world.names }
+    ensures script { scope.new.world.script ≡ scope.old.world.script }
     ensures stands { IsReadyScope scope.new }
 {
     if is_fun_in_use(&scope.world, name.name) {
         return Err(broken(Code::FunctionNameInUse, name.at));
     }
     let sort = sort_of(scope, &[], sort)?;
-    add_function(scope, name.name, Sorts::new(scope.alloc), sort)
+    let kept = copy_of(&sort)?;
+    let no = add_function(scope, name.name, Sorts::new(scope.alloc), sort)?;
+    Ok(TypedCommand::DeclareConst {
+        no,
+        name: name.name,
+        sort: kept,
+    })
 }
 
 fn declare_fun(
     scope: &mut Scope,
+    at: u32,
     name: &Tok,
     args: RawSorts,
     sort: RawSort,
-) -> Result<(), StepError>
+) -> Result<TypedCommand, StepError>
     requires stands { IsReadyScope scope.old }
     requires logic { IsTrue scope.old.logic }
     requires named { name.now.name < length scope.old.world.names }
     ensures answer { let names = scope.old.world.names in
-        AnswersParts (environment_of names scope.old) (command.declare_fun name.now args.entry sort.entry) result (environment_of names scope.new) }
+        AnswersParts (environment_of names scope.old) at (command.declare_fun name.now args.entry sort.entry) result (environment_of names scope.new) }
     ensures names { scope.new.world.names ≡ scope.old.world.names }
+    ensures script { scope.new.world.script ≡ scope.old.world.script }
     ensures stands { IsReadyScope scope.new }
 {
     if is_fun_in_use(&scope.world, name.name) {
@@ -220,19 +285,29 @@ fn declare_fun(
     }
     let args = sorts_of(scope, args)?;
     let sort = sort_of(scope, &[], sort)?;
-    add_function(scope, name.name, args, sort)
+    let kept_args = copies_of(scope.alloc, &args)?;
+    let kept_result = copy_of(&sort)?;
+    let no = add_function(scope, name.name, args, sort)?;
+    Ok(TypedCommand::DeclareFun {
+        no,
+        name: name.name,
+        args: kept_args,
+        result: kept_result,
+    })
 }
 
 // Declares a sort symbol of a free sort under the next number, as `add_function`.
-fn add_free_sort(scope: &mut Scope, name: NameId, arity: u32) -> Result<(), StepError>
+fn add_free_sort(scope: &mut Scope, name: NameId, arity: u32) -> Result<DeclNo, StepError>
     requires stands { IsReadyScope scope.old }
     requires logic { IsTrue scope.old.logic }
     requires named { name < length scope.old.world.names }
     requires free { is_theory_sort scope.old.world.names scope.old.world.theories name ≡ false }
     ensures effect { let names = scope.old.world.names in
         OnOk result (environment_of names scope.new ≡ with_free_sort (environment_of names scope.old) name arity) }
+    ensures number { IfOk result (λ no. no ≡ record { 0 = scope.old.next }) }
     ensures error { IfErr result (λ e. e ≡ StepError.NoMemory) }
     ensures names { scope.new.world.names ≡ scope.old.world.names }
+    ensures script { scope.new.world.script ≡ scope.old.world.script }
     ensures stands { IsReadyScope scope.new }
 {
     let Some(next) = scope.next.checked_add(1) else {
@@ -246,28 +321,39 @@ fn add_free_sort(scope: &mut Scope, name: NameId, arity: u32) -> Result<(), Step
     {
         Ok(()) => {
             scope.next = next;
-            Ok(())
+            Ok(no)
         }
         Err(_) => Err(StepError::NoMemory),
     }
 }
 
-fn declare_sort(scope: &mut Scope, name: &Tok, arity: &Tok) -> Result<(), StepError>
+fn declare_sort(
+    scope: &mut Scope,
+    at: u32,
+    name: &Tok,
+    arity: &Tok,
+) -> Result<TypedCommand, StepError>
     requires stands { IsReadyScope scope.old }
     requires logic { IsTrue scope.old.logic }
     requires named { name.now.name < length scope.old.world.names }
     ensures answer { let names = scope.old.world.names in
-        AnswersParts (environment_of names scope.old) (command.declare_sort name.now arity.now) result (environment_of names scope.new) }
+        AnswersParts (environment_of names scope.old) at (command.declare_sort name.now arity.now) result (environment_of names scope.new) }
     ensures names { scope.new.world.names ≡ scope.old.world.names }
+    ensures script { scope.new.world.script ≡ scope.old.world.script }
     ensures stands { IsReadyScope scope.new }
 {
     if is_sort_in_use(&scope.world, name.name) {
         return Err(broken(Code::SortNameInUse, name.at));
     }
-    let Some(number) = value_of(&scope.world.names, arity) else {
+    let Some(count) = value_of(&scope.world.names, arity) else {
         return Err(broken(Code::NumberTooLarge, arity.at));
     };
-    add_free_sort(scope, name.name, number)
+    let no = add_free_sort(scope, name.name, count)?;
+    Ok(TypedCommand::DeclareSort {
+        no,
+        name: name.name,
+        arity: count,
+    })
 }
 
 fn is_repeated(names: &[NameId], name: NameId) -> bool
@@ -277,15 +363,15 @@ fn is_repeated(names: &[NameId], name: NameId) -> bool
 }
 
 // The names of the parameters, none of them repeated.
-fn params_of(alloc: Global, params: &RawSymbols) -> Result<Vec<NameId>, StepError>
+fn params_of(alloc: Global, params: &RawSymbols) -> Result<ListOf<NameId>, StepError>
     ensures answer { Answers (judge_params [] params.now) (λ v. tt) result }
-    ensures names { IfOk result (λ v. v.items ≡ map (λ p. p.name) params.now) }
+    ensures names { IfOk result (λ v. v ≡ map (λ p. p.name) params.now) }
 {
-    let mut names: Vec<NameId> = Vec::new(alloc);
+    let mut names: ListOf<NameId> = ListOf::new(alloc);
     let mut next = params.split();
     while let Some((first, rest)) = next {
         let name = first.name;
-        if is_repeated(&names, name) {
+        if is_repeated(names.as_slice(), name) {
             return Err(broken(Code::RepeatedVariable, first.at));
         }
         match names.push(name) {
@@ -313,6 +399,7 @@ fn add_defined_sort(
         OnOk result (environment_of names scope.new ≡ with_defined_sort (environment_of names scope.old) name params (tree sort)) }
     ensures error { IfErr result (λ e. e ≡ StepError.NoMemory) }
     ensures names { scope.new.world.names ≡ scope.old.world.names }
+    ensures script { scope.new.world.script ≡ scope.old.world.script }
     ensures stands { IsReadyScope scope.new }
 {
     let entry = SortEntry::Defined { params, sort };
@@ -324,27 +411,35 @@ fn add_defined_sort(
 
 fn define_sort(
     scope: &mut Scope,
+    at: u32,
     name: &Tok,
     params: &RawSymbols,
     sort: RawSort,
-) -> Result<(), StepError>
+) -> Result<TypedCommand, StepError>
     requires stands { IsReadyScope scope.old }
     requires logic { IsTrue scope.old.logic }
     requires named { name.now.name < length scope.old.world.names }
     ensures answer { let names = scope.old.world.names in
-        AnswersParts (environment_of names scope.old) (command.define_sort name.now params.now sort.entry) result (environment_of names scope.new) }
+        AnswersParts (environment_of names scope.old) at (command.define_sort name.now params.now sort.entry) result (environment_of names scope.new) }
     ensures names { scope.new.world.names ≡ scope.old.world.names }
+    ensures script { scope.new.world.script ≡ scope.old.world.script }
     ensures stands { IsReadyScope scope.new }
 {
     if is_sort_in_use(&scope.world, name.name) {
         return Err(broken(Code::SortNameInUse, name.at));
     }
     let params = params_of(scope.alloc, params)?;
-    let sort = sort_of(scope, &params, sort)?;
-    let Ok(count) = u32::try_from(params.len()) else {
+    let sort = sort_of(scope, params.as_slice(), sort)?;
+    let Ok(count) = u32::try_from(params.as_slice().len()) else {
         return Err(StepError::NoMemory);
     };
-    add_defined_sort(scope, name.name, count, sort)
+    let kept = copy_of(&sort)?;
+    add_defined_sort(scope, name.name, count, sort)?;
+    Ok(TypedCommand::DefineSort {
+        name: name.name,
+        params,
+        sort: kept,
+    })
 }
 
 // Whether the value is the symbol `true`.
@@ -364,6 +459,7 @@ fn set_logic(scope: &mut Scope, name: &Tok)
     ensures effect { let env = environment_of scope.old.world.names in
         env scope.new ≡ record (env scope.old) { logic = true; theories = theories_of (env scope.old) name.now } }
     ensures names { scope.new.world.names ≡ scope.old.world.names }
+    ensures script { scope.new.world.script ≡ scope.old.world.script }
     ensures stands { IsReadyScope scope.new }
 {
     let theories = logic_theories(text_of(&scope.world.names, name.name));
@@ -371,11 +467,13 @@ fn set_logic(scope: &mut Scope, name: &Tok)
     scope.logic = true;
 }
 
-fn set_option(scope: &mut Scope, attribute: &RawAttribute)
+// Sets what the option says of declarations, where it speaks of them.
+fn set_global(scope: &mut Scope, attribute: &RawAttribute)
     requires stands { IsReadyScope scope.old }
     ensures effect { let names = scope.old.world.names in
         environment_of names scope.new ≡ after_option (environment_of names scope.old) attribute.now }
     ensures names { scope.new.world.names ≡ scope.old.world.names }
+    ensures script { scope.new.world.script ≡ scope.old.world.script }
     ensures stands { IsReadyScope scope.new }
 {
     if let RawAttributeKind::Valued { keyword, value } = attribute.kind() {
@@ -385,36 +483,56 @@ fn set_option(scope: &mut Scope, attribute: &RawAttribute)
     }
 }
 
-fn push(scope: &mut Scope, count: &Tok) -> Result<(), StepError>
+fn set_option(
+    scope: &mut Scope,
+    at: u32,
+    attribute: &RawAttribute,
+) -> Result<TypedCommand, StepError>
+    requires stands { IsReadyScope scope.old }
+    ensures answer { let names = scope.old.world.names in
+        AnswersParts (environment_of names scope.old) at (command.set_option attribute.now) result (environment_of names scope.new) }
+    ensures names { scope.new.world.names ≡ scope.old.world.names }
+    ensures script { scope.new.world.script ≡ scope.old.world.script }
+    ensures stands { IsReadyScope scope.new }
+{
+    let key = attribute_key(attribute).name;
+    let value = attribute_value(scope.alloc, attribute)?;
+    set_global(scope, attribute);
+    Ok(TypedCommand::SetOption { key, value })
+}
+
+fn push(scope: &mut Scope, at: u32, count: &Tok) -> Result<TypedCommand, StepError>
     requires stands { IsReadyScope scope.old }
     requires logic { IsTrue scope.old.logic }
     ensures answer { let names = scope.old.world.names in
-        AnswersParts (environment_of names scope.old) (command.push count.now) result (environment_of names scope.new) }
+        AnswersParts (environment_of names scope.old) at (command.push count.now) result (environment_of names scope.new) }
     ensures names { scope.new.world.names ≡ scope.old.world.names }
+    ensures script { scope.new.world.script ≡ scope.old.world.script }
     ensures stands { IsReadyScope scope.new }
 {
     let Some(levels) = value_of(&scope.world.names, count) else {
         return Err(StepError::NoMemory);
     };
     match scope.world.scopes.push(levels) {
-        Ok(()) => Ok(()),
+        Ok(()) => Ok(TypedCommand::Push { count: levels }),
         Err(_) => Err(StepError::NoMemory),
     }
 }
 
-fn pop(scope: &mut Scope, count: &Tok) -> Result<(), StepError>
+fn pop(scope: &mut Scope, at: u32, count: &Tok) -> Result<TypedCommand, StepError>
     requires stands { IsReadyScope scope.old }
     requires logic { IsTrue scope.old.logic }
     ensures answer { let names = scope.old.world.names in
-        AnswersParts (environment_of names scope.old) (command.pop count.now) result (environment_of names scope.new) }
+        AnswersParts (environment_of names scope.old) at (command.pop count.now) result (environment_of names scope.new) }
     ensures names { scope.new.world.names ≡ scope.old.world.names }
+    ensures script { scope.new.world.script ≡ scope.old.world.script }
     ensures stands { IsReadyScope scope.new }
 {
     let Some(levels) = value_of(&scope.world.names, count) else {
         return Err(StepError::NoMemory);
     };
     match scope.world.scopes.pop(levels) {
-        Ok(()) => Ok(()),
+        Ok(()) => Ok(TypedCommand::Pop { count: levels }),
         Err(_) => Err(StepError::NoMemory),
     }
 }
@@ -425,6 +543,7 @@ fn reset(scope: &mut Scope)
     ensures effect { let names = scope.old.world.names in
         environment_of names scope.new ≡ record start { names = names; next = scope.old.next } }
     ensures names { scope.new.world.names ≡ scope.old.world.names }
+    ensures script { scope.new.world.script ≡ scope.old.world.script }
     ensures stands { IsReadyScope scope.new }
 {
     scope.world.scopes.reset();
@@ -438,51 +557,54 @@ fn reset_assertions(scope: &mut Scope)
     ensures effect { let env = environment_of scope.old.world.names in
         env scope.new ≡ record (env scope.old) { declarations = without_assertions (env scope.old).declarations } }
     ensures names { scope.new.world.names ≡ scope.old.world.names }
+    ensures script { scope.new.world.script ≡ scope.old.world.script }
     ensures stands { IsReadyScope scope.new }
 {
     scope.world.scopes.reset_assertions();
 }
 
-/// Judges the names, sorts and terms of a command whose form and mode are judged, and does what it leads to. `Broken` comes
-/// exactly where one breaks a rule.
-pub fn take_parts(scope: &mut Scope, command: RawCommandKind) -> Result<(), StepError>
+/// Judges the names, sorts and terms of a command whose form and mode are judged and whose list begins at a byte, does what it
+/// leads to, and answers the typed command. `Broken` comes exactly where one breaks a rule.
+pub fn take_parts(
+    scope: &mut Scope,
+    at: u32,
+    command: RawCommandKind,
+) -> Result<TypedCommand, StepError>
     requires stands { IsReadyScope scope.old }
     requires named { IsDeclaredNamed scope.old.world.names (command_from command) }
     requires mode { IsInMode scope.old.logic (command_from command) }
     ensures answer { let names = scope.old.world.names in
-        AnswersParts (environment_of names scope.old) (command_from command.entry) result (environment_of names scope.new) }
+        AnswersParts (environment_of names scope.old) at (command_from command.entry) result (environment_of names scope.new) }
     ensures names { scope.new.world.names ≡ scope.old.world.names }
+    ensures script { scope.new.world.script ≡ scope.old.world.script }
     ensures stands { IsReadyScope scope.new }
 {
     match command {
-        RawCommandKind::Assert(term) => assertion(scope, term),
-        RawCommandKind::CheckSatAssuming(literals) => assumptions(scope, &literals),
-        RawCommandKind::DeclareConst { name, sort } => declare_const(scope, &name, sort),
+        RawCommandKind::Assert(term) => assertion(scope, at, term),
+        RawCommandKind::CheckSatAssuming(literals) => assumptions(scope, at, &literals),
+        RawCommandKind::DeclareConst { name, sort } => declare_const(scope, at, &name, sort),
         RawCommandKind::DeclareFun { name, args, result } => declare_fun(
-            scope, &name, args, result,
+            scope, at, &name, args, result,
         ),
-        RawCommandKind::DeclareSort { name, arity } => declare_sort(scope, &name, &arity),
+        RawCommandKind::DeclareSort { name, arity } => declare_sort(scope, at, &name, &arity),
         RawCommandKind::DefineSort { name, params, sort } => {
-            define_sort(scope, &name, &params, sort)
+            define_sort(scope, at, &name, &params, sort)
         }
-        RawCommandKind::Push(count) => push(scope, &count),
-        RawCommandKind::Pop(count) => pop(scope, &count),
+        RawCommandKind::Push(count) => push(scope, at, &count),
+        RawCommandKind::Pop(count) => pop(scope, at, &count),
         RawCommandKind::SetLogic(name) => {
             set_logic(scope, &name);
-            Ok(())
+            Ok(TypedCommand::SetLogic { name: name.name })
         }
-        RawCommandKind::SetOption(attribute) => {
-            set_option(scope, &attribute);
-            Ok(())
-        }
+        RawCommandKind::SetOption(attribute) => set_option(scope, at, &attribute),
         RawCommandKind::Reset => {
             reset(scope);
-            Ok(())
+            Ok(TypedCommand::Reset)
         }
         RawCommandKind::ResetAssertions => {
             reset_assertions(scope);
-            Ok(())
+            Ok(TypedCommand::ResetAssertions)
         }
-        _ => Ok(()),
+        other => unchanging(scope.alloc, at, &other),
     }
 }

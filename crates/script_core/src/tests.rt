@@ -1,10 +1,12 @@
 ghost use Rattle.std.specs.Prelude.{◌≡◌, false};
 
 use super::*;
+use crate::rules::text_of;
 use sig_table::Code;
 use std::alloc::{AllocError, Global};
 use std::process::Abort;
 use std::test::Fail;
+use term_store::{TermNode, TypedCommand};
 
 // What a session answers that is fed the text in two chunks, the first of so many bytes, and then finished.
 fn answer(
@@ -19,18 +21,18 @@ fn answer(
     let mut session = Session::new(alloc)?;
     assert!(rt; session.taken() == 0);
     if let Err(stop) = session.feed(front) {
-        return Ok((Err(stop), session.count()));
+        return Ok((Err(stop), session.script().len() as u32));
     }
     assert!(rt; session.taken() < 5000);
     if let Err(stop) = session.feed(back) {
-        return Ok((Err(stop), session.count()));
+        return Ok((Err(stop), session.script().len() as u32));
     }
     assert_eq!(rt; session.taken() as usize, text.len());
     if let Err(stop) = session.finish() {
         assert_eq!(rt; session.finish(), Err(stop));
-        return Ok((Err(stop), session.count()));
+        return Ok((Err(stop), session.script().len() as u32));
     }
-    Ok((Ok(()), session.count()))
+    Ok((Ok(()), session.script().len() as u32))
 }
 
 fn refused(command: u32, at: u32, rule: Code) -> Result<(), Stop> {
@@ -500,11 +502,109 @@ fn answer_of_two(
     let mut session = Session::new(alloc)?;
     assert!(rt; session.taken() == 0);
     if let Err(stop) = session.feed(front) {
-        return Ok((Err(stop), session.count()));
+        return Ok((Err(stop), session.script().len() as u32));
     }
     assert!(rt; session.taken() < 5000);
     if let Err(stop) = session.feed(back) {
-        return Ok((Err(stop), session.count()));
+        return Ok((Err(stop), session.script().len() as u32));
     }
-    Ok((session.finish(), session.count()))
+    Ok((session.finish(), session.script().len() as u32))
+}
+
+// The word of a kept command with its name and two of its numbers.
+fn told<'s>(session: &'s Session, i: usize) -> (&'static [u8], &'s [u8], usize, usize) {
+    let names = session.names();
+    match session.script().command(i) {
+        Some(TypedCommand::SetLogic { name }) => (b"set-logic", text_of(names, *name), 0, 0),
+        Some(TypedCommand::DeclareSort { no, name, arity }) => {
+            (
+                b"declare-sort",
+                text_of(names, *name),
+                no.0 as usize,
+                *arity as usize,
+            )
+        }
+        Some(TypedCommand::DefineSort { name, params, sort }) => (
+            b"define-sort",
+            text_of(names, *name),
+            params.as_slice().len(),
+            sort.node_count() as usize,
+        ),
+        Some(TypedCommand::DeclareFun { no, name, args, .. }) => (
+            b"declare-fun",
+            text_of(names, *name),
+            no.0 as usize,
+            args.as_slice().len(),
+        ),
+        Some(TypedCommand::DeclareConst { no, name, sort }) => (
+            b"declare-const",
+            text_of(names, *name),
+            no.0 as usize,
+            sort.node_count() as usize,
+        ),
+        Some(TypedCommand::Push { count }) => (b"push", b"", *count as usize, 0),
+        Some(TypedCommand::Pop { count }) => (b"pop", b"", *count as usize, 0),
+        Some(TypedCommand::Assert { term }) => match term.node() {
+            TermNode::App { head, args } => {
+                (b"assert", text_of(names, head.name), args.len(), 0)
+            }
+            _ => (b"assert", b"", 0, 0),
+        },
+        Some(TypedCommand::CheckSatAssuming { terms }) => {
+            (b"check-sat-assuming", b"", terms.as_slice().len(), 0)
+        }
+        Some(TypedCommand::SetInfo { key, value }) => {
+            (
+                b"set-info",
+                text_of(names, *key),
+                value.is_some() as usize,
+                0,
+            )
+        }
+        Some(TypedCommand::SetOption { key, value }) => {
+            (
+                b"set-option",
+                text_of(names, *key),
+                value.is_some() as usize,
+                0,
+            )
+        }
+        Some(TypedCommand::Echo { text }) => (b"echo", text_of(names, *text), 0, 0),
+        Some(TypedCommand::Exit) => (b"exit", b"", 0, 0),
+        Some(_) => (b"other", b"", 0, 0),
+        None => (b"", b"", 0, 0),
+    }
+}
+
+// The script holds the typed commands that were accepted, also after a refusal.
+#[test]
+fn keeps_typed_commands(rt: HostRuntime) -> Result<(), Fail> {
+    let rows: [(&[u8], &[u8], usize, usize); 14] = [
+        (b"set-option", b":print-success", 1, 0),
+        (b"set-logic", b"ALL", 0, 0),
+        (b"declare-sort", b"S", 0, 1),
+        (b"define-sort", b"T", 1, 2),
+        (b"declare-fun", b"f", 1, 2),
+        (b"declare-const", b"a", 2, 2),
+        (b"push", b"", 2, 0),
+        (b"assert", b"f", 2, 0),
+        (b"check-sat-assuming", b"", 2, 0),
+        (b"set-info", b":status", 1, 0),
+        (b"echo", b"hi", 0, 0),
+        (b"pop", b"", 1, 0),
+        (b"declare-const", b"p", 3, 1),
+        (b"", b"", 0, 0),
+    ];
+    let text: &[u8] = b"(set-option :print-success true)(set-logic ALL)(declare-sort S 1)\
+        (define-sort T (A) (S A))(declare-fun f ((T Int) Int) Bool)(declare-const a (S Int))(push 2)\
+        (assert (f a 7))(check-sat-assuming (true (not true)))(set-info :status (sat 1))(echo \"hi\")\
+        (pop 1)(declare-const |p| Bool)(assert a)(exit)";
+    let mut session = Session::new(rt.alloc())?;
+    assert!(rt; session.taken() == 0);
+    let stop = session.feed(text);
+    assert_eq!(rt; stop.is_err(), true);
+    for (i, row) in rows.iter().enumerate() {
+        assert_eq!(rt; told(&session, i), *row);
+    }
+    Ok(())
 }

@@ -1,24 +1,39 @@
-use Rattle.std.proofs.Common.{◌∙◌, ap}
+use Rattle.std.proofs.Common.{◌∙◌, ap, refl}
 use Rattle.std.proofs.lemmas.Result.{err_from_is_err_and}
 use Rattle.script_core.specs.Checking.{environment_of}
 use Rattle.script_core.specs.RuleAnswers.{literals_left}
-use Rattle.script_core.proofs.TakingLiterals.{literals_broken, literals_onward}
+use Rattle.script_core.proofs.TakingLiterals.{env_at, literals_broken, literals_onward, literals_start, literals_taken}
 use Rattle.script_core.proofs.effects.assumptions.Goals as goal
 
-pub returns-in_err-bool_term-clause-answer : goal.returns-in_err-bool_term-clause-answer
-returns-in_err-bool_term-clause-answer c =
+pub loop-next-init : goal.loop-next-init
+loop-next-init c = record {
+  onward = literals_start (environment_of c.args.scope.now.world.names c.args.scope.now) c.args.literals.now c.split-next.result c.new-terms.result c.split-next.ensures c.new-terms.ensures;
+  same = refl;
+  script = refl;
+  stands = c.requires.stands;
+}
+
+pub returns-in_err-term-clause-answer : goal.returns-in_err-term-clause-answer
+returns-in_err-term-clause-answer c =
     let names = c.args.scope.now.world.names in
     let here = c.loop-next.scope in
     let p = err_from_is_err_and c.from_residual.result c.from_residual.ensures.1 in rw (p.1, p.2)
-    (literals_broken (environment_of names c.args.scope.now) (environment_of here.world.names here) c.args.literals.now (literals_left c.loop-next.next) c.in-Some.first c.in-Some.rest c.term.result
-    c.loop-next.invariant.same (ap literals_left c.in-Some.is) c.term.ensures c.loop-next.invariant.onward (environment_of names c.bool_term.new.scope) c.in_err-bool_term.field-0.0
-    c.in_err-bool_term.ensures.answer)
+    (literals_broken (environment_of names c.args.scope.now) (environment_of here.world.names here) c.args.literals.now (literals_left c.loop-next.next) c.in-Some.first c.in-Some.rest c.term.result c.loop-next.terms
+    c.loop-next.invariant.same (ap literals_left c.in-Some.is) c.term.ensures c.loop-next.invariant.onward c.args.at (environment_of names c.bool_term.new.scope) c.in_err-term.field-0.0
+    c.in_err-term.ensures.answer)
 
 pub loop-next-preserved : goal.loop-next-preserved
 loop-next-preserved c =
     let here = c.loop-next.scope in record {
       onward = literals_onward (environment_of c.args.scope.now.world.names c.args.scope.now) (environment_of here.world.names here) c.args.literals.now (literals_left c.loop-next.next) c.in-Some.first c.in-Some.rest
-          c.term.result c.loop-next.invariant.same (ap literals_left c.in-Some.is) c.term.ensures c.loop-next.invariant.onward c.split-next-in-Some.result c.split-next-in-Some.ensures c.in_ok-bool_term.ensures.answer;
+          c.term.result c.loop-next.terms c.loop-next.invariant.same (ap literals_left c.in-Some.is) c.term.ensures c.loop-next.invariant.onward c.split-next-in-Some.result c.in_ok-term.term c.push.new.self
+          c.split-next-in-Some.ensures c.in_ok-term.ensures.answer c.in-Ok.ensures.ok;
       same = c.bool_term.ensures.same ∙ c.loop-next.invariant.same;
+      script = c.bool_term.ensures.script ∙ c.loop-next.invariant.script;
       stands = c.bool_term.ensures.stands;
     }
+
+pub returns-clause-answer : goal.returns-clause-answer
+returns-clause-answer c = let names = c.args.scope.now.world.names in
+    literals_taken (environment_of names c.args.scope.now) (environment_of names c.loop-next.scope) c.args.at c.args.literals.now (literals_left c.loop-next.next) c.loop-next.terms (ap literals_left c.in_default.is)
+    c.loop-next.invariant.onward (env_at names c.args.scope.now c.loop-next.scope refl c.loop-next.invariant.same)

@@ -7,6 +7,6 @@ add_function-requires-clause-args c = schemas_later c.sorts_of.new.scope c.sort_
 
 pub returns-clause-answer : goal.returns-clause-answer
 returns-clause-answer c =
-    fun_answer c.args.scope.now c.sorts_of.new.scope c.sort_of.new.scope c.add_function.new.scope c.args.name.now c.args.args c.args.sort c.in_ok-args.args c.in_ok-sort.sort c.add_function.result
+    fun_answer c.args.scope.now c.sorts_of.new.scope c.sort_of.new.scope c.add_function.new.scope c.args.at c.args.name.now c.args.args c.args.sort c.in_ok-args.args c.in_ok-kept_args.kept_args c.in_ok-sort.sort c.in_ok-kept_result.kept_result c.in_ok-no.no
     (sym c.is_fun_in_use.ensures ∙ c.if-is_fun_in_use.false) c.in_ok-args.ensures.answer c.sorts_of.ensures.grown c.in_ok-sort.ensures.answer c.sort_of.ensures.grown
-    c.add_function.ensures.effect c.add_function.ensures.error
+    c.in_ok-no.ensures.effect c.in_ok-no.ensures.number c.in_ok-kept_args.ensures.ok c.in_ok-kept_result.ensures.ok

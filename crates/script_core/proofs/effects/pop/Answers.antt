@@ -1,12 +1,11 @@
-use Rattle.std.proofs.Common.{◌∙◌, ap, refl}
-use Rattle.typer.specs.Declarations.{declarations_of, with_popped}
-use Rattle.script_core.proofs.TakingParts.{declared_env, levels_popped}
-use Rattle.script_core.proofs.ReadyScopes.{popped_stands}
+use Rattle.script_core.proofs.TakingParts.{declared_env, levels_popped, pop_answer}
+use Rattle.script_core.proofs.ReadyScopes.{popped_stands, with_scopes}
 use Rattle.script_core.proofs.effects.pop.Goals as goal
 
 pub returns-in-Ok-clause-answer : goal.returns-in-Ok-clause-answer
 returns-in-Ok-clause-answer c = let scope = c.args.scope.now in
-    (declared_env scope.world.names scope c.pop.new.self scope.next _ (levels_popped c.in-Some.levels scope.world.scopes c.pop.new.self c.in-Ok.ensures.ok ∙ ap (λ n. with_popped n (declarations_of scope.world.scopes)) c.in-Some.ensures.value), refl)
+    pop_answer scope (record (with_scopes c.pop.new.self scope) { next = scope.next }) c.args.at c.in-Some.levels c.args.count.now c.in-Some.ensures.value
+    (declared_env scope.world.names scope c.pop.new.self scope.next _ (levels_popped c.in-Some.levels scope.world.scopes c.pop.new.self c.in-Ok.ensures.ok))
 
 pub returns-in-Ok-clause-stands : goal.returns-in-Ok-clause-stands
 returns-in-Ok-clause-stands c = let scope = c.args.scope.now in

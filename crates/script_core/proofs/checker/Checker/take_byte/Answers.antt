@@ -55,7 +55,7 @@ returns-in-Ok-clause-ended c =
 
 pub returns-in-Ok-clause-refused : goal.returns-in-Ok-clause-refused
 returns-in-Ok-clause-refused c =
-    byte_refused c.args.self.now c.args.byte c.in-Ok.fed c.feed-fed.new.names c.feed-fed.new.self c.take_fed.result (feeds c) c.take_fed.ensures.refused
+    byte_refused c.args.self.now c.args.byte c.in-Ok.fed c.feed-fed.new.names c.feed-fed.new.self _ c.take_fed.result (feeds c) c.take_fed.ensures.refused
 
 pub returns-in-Ok-More-clause-refused : goal.returns-in-Ok-More-clause-refused
 returns-in-Ok-More-clause-refused c = let fault = c.in-Err-Fault in
@@ -78,7 +78,7 @@ returns-in-Ok-Ended-clause-ended c = let fault = c.in-Err-Fault in
       gain = rw fault.field-0-is at fault.ensures.gain;
       interned = rw fault.field-0-is at fault.ensures.interned;
     } in
-    before_exits c.args.self.now c.args.byte fault.fault.before fault.fault.place c.feed-fed.new.names c.feed-fed.new.self c.take_option.new.self.count l
+    before_exits c.args.self.now c.args.byte fault.fault.before fault.fault.place c.feed-fed.new.names c.feed-fed.new.self _ l
     (rw c.in-Ok-Ended.field-0-is at c.in-Ok-Ended.ensures.ended)
 
 pub returns-in-Err-clause-refused : goal.returns-in-Err-clause-refused
@@ -90,4 +90,4 @@ returns-in-Err-clause-refused c = let fault = c.in-Err-Fault in
       gain = rw fault.field-0-is at fault.ensures.gain;
       interned = rw fault.field-0-is at fault.ensures.interned;
     } in
-    before_refused c.args.self.now c.args.byte fault.fault.before fault.fault.place c.feed-fed.new.names c.feed-fed.new.self c.in-Err.stop l c.in-Err.ensures.refused
+    before_refused c.args.self.now c.args.byte fault.fault.before fault.fault.place c.feed-fed.new.names c.feed-fed.new.self _ c.in-Err.stop l c.in-Err.ensures.refused

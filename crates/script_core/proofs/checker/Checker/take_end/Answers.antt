@@ -63,7 +63,7 @@ returns-in-Ok-Ended-clause-ok c =
       gain = c.in-Ok.ensures.gain;
       interned = c.in-Ok.ensures.interned;
     } in
-    left_exits c.args.self.now c.finish-left.new.names c.finish-left.new.self c.in-Ok.left c.take_option.new.self.count l
+    left_exits c.args.self.now c.finish-left.new.names c.finish-left.new.self c.in-Ok.left _ l
     (rw c.in-Ok-Ended.field-0-is at c.in-Ok-Ended.ensures.ended)
 
 pub returns-in-Err-clause-refused : goal.returns-in-Err-clause-refused
@@ -75,7 +75,7 @@ returns-in-Err-clause-refused c =
       gain = c.in-Ok.ensures.gain;
       interned = c.in-Ok.ensures.interned;
     } in
-    left_refused c.args.self.now c.finish-left.new.names c.finish-left.new.self c.in-Ok.left c.in-Err.stop l c.in-Err.ensures.refused
+    left_refused c.args.self.now c.finish-left.new.names c.finish-left.new.self c.in-Ok.left _ c.in-Err.stop l c.in-Err.ensures.refused
 
 pub returns-in-Err-Fault-clause-refused : goal.returns-in-Err-Fault-clause-refused
 returns-in-Err-Fault-clause-refused c = let fault = c.in-Err-Fault in

@@ -1,3 +1,5 @@
+use Rattle.std.proofs.Common.{arith}
+use Rattle.script_core.proofs.SoundCheckers.{list_sound}
 use Rattle.script_core.proofs.TakingTokens.{broken_token, ended_list, refused_list, taken_inside, taken_list, tree_interned}
 use Rattle.script_core.proofs.checker.Checker.take_token.Goals as goal
 
@@ -14,16 +16,21 @@ returns-in-Ok-None-clause-more c = λ tokens awaits. let none = c.in-Ok-None in
 
 pub returns-in-Ok-Some-clause-more : goal.returns-in-Ok-Some-clause-more
 returns-in-Ok-Some-clause-more c = let some = c.in-Ok-Some in let list = c.take_list.ensures in
-    taken_list c.args.self.now c.take_list.new.self c.args.tok some.field-0 some.tree c.take.new.self c.take_list.result c.requires.table c.requires.interned some.field-0-is some.ensures.tree some.ensures.emptied list.same.2 list.same.0 list.ok list.counted list.stands
+    taken_list c.args.self.now c.take_list.new.self c.args.tok some.field-0 some.tree c.take.new.self c.take_list.result c.requires.table c.requires.interned some.field-0-is some.ensures.tree some.ensures.emptied list.same.2 list.same.0 list.ok list.stands
 
 pub returns-in-Ok-Some-clause-ended : goal.returns-in-Ok-Some-clause-ended
 returns-in-Ok-Some-clause-ended c = let some = c.in-Ok-Some in let list = c.take_list.ensures in
-    ended_list c.args.self.now c.take_list.new.self c.args.tok some.field-0 some.tree c.take_list.result c.requires.table c.requires.interned some.field-0-is some.ensures.tree list.ok list.counted
+    ended_list c.args.self.now c.take_list.new.self c.args.tok some.field-0 some.tree c.take_list.result c.requires.table c.requires.interned some.field-0-is some.ensures.tree list.ok
 
 pub returns-in-Ok-Some-clause-refused : goal.returns-in-Ok-Some-clause-refused
 returns-in-Ok-Some-clause-refused c = let some = c.in-Ok-Some in
-    refused_list c.args.self.now c.args.tok some.field-0 some.tree c.take_list.result c.requires.table c.requires.interned some.field-0-is some.ensures.tree c.take_list.ensures.refused
+    refused_list c.args.self.now c.take_list.new.self c.args.tok some.field-0 some.tree c.take_list.result c.requires.table c.requires.interned some.field-0-is some.ensures.tree c.take_list.ensures.refused c.take_list.ensures.script
 
 pub returns-in-Err-Fault-clause-refused : goal.returns-in-Err-Fault-clause-refused
 returns-in-Err-Fault-clause-refused c = let fault = c.in-Err-Fault in
     broken_token c.args.self.now c.args.tok fault.field-0 fault.place c.refusal.result fault.field-0-is fault.ensures.fault c.refusal.ensures
+
+pub returns-in-Ok-Some-clause-sound : goal.returns-in-Ok-Some-clause-sound
+returns-in-Ok-Some-clause-sound c = let some = c.in-Ok-Some in let list = c.take_list.ensures in
+    list_sound c.requires.awaits.0 c.args.self.now c.take_list.new.self c.args.tok some.field-0 some.tree c.take_list.result c.requires.awaits.1 c.requires.table c.requires.interned some.field-0-is some.ensures.tree
+    c.requires.sound (omega (arith, c.requires.few, list.counted)) list.ok list.script

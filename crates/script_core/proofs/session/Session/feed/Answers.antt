@@ -16,6 +16,7 @@ invariant_of-self c = (
         ((rw c.in-Ok-More.field-0-is at c.in-Ok-More.ensures.more) given.0 (stands_taken c.self.inside.ended given.0 c.self.inside.checker going given.1)),
     λ e. omega (arith, length-append given.0 c.args.piece.now, given.2 going),
   ),
+  c.take_bytes.ensures.sound,
 )
 
 pub invariant_of-self-in-Ok-Ended : goal.invariant_of-self-in-Ok-Ended
@@ -26,6 +27,7 @@ invariant_of-self-in-Ok-Ended c = (
     (rw c.in-Ok-Ended.field-0-is at c.in-Ok-Ended.ensures.ended) given.0 (stands_taken c.self.inside.ended given.0 c.self.inside.checker going given.1),
     λ e. absurd (false≢true (sym e)),
   ),
+  c.take_bytes.ensures.sound,
 )
 
 pub returns-in-Ok-More-clause-judged : goal.returns-in-Ok-More-clause-judged
@@ -42,4 +44,4 @@ pub returns-in-Err-clause-judged : goal.returns-in-Err-clause-judged
 returns-in-Err-clause-judged c bytes h =
     feed_refused Progress bytes c.args.piece.now c.self.inside.checker _ c.in-Err.stop
     (stands_taken c.self.inside.ended bytes c.self.inside.checker c.if-self.false (given_stands _ c.args.self.now bytes c.self.view_is h))
-    c.in-Err.ensures.refused c.in-Err.ensures.number
+    c.in-Err.ensures.refused

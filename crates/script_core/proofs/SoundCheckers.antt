@@ -1,0 +1,30 @@
+-- The script of a checker is sound after each list.
+use Rattle.std.proofs.Common.{◌≡◌, ◌-◌, ◌<◌, ◌^◌, List, [], ◌∷◌, length, Option, Some, None, Result, Ok, Err, sym, ◌∙◌, subst, arith, refl}
+use Rattle.std.specs.Prelude.{IfOk, IfSome, OnErr}
+use Rattle.lex_core.specs.NameTable.{IsNameTable}
+use Rattle.lex_core.specs.Token.{Token, token_of}
+use Rattle.lex_core.specs.declared.token.Tok.{Tok}
+use Rattle.sexp_core.specs.Sexp.{Sexp}
+use Rattle.term_store.specs.Script.{Kept, empty_script}
+use Rattle.term_store.specs.SoundScript.{IsSound}
+use Rattle.script_core.specs.declared.checker.Checker.{Checker}
+use Rattle.script_core.specs.declared.refusal.Progress.{Progress}
+use Rattle.script_core.specs.declared.refusal.Stop.{Stop}
+use Rattle.script_core.specs.Checking.{Awaits, TakesTree, accepted_by}
+use Rattle.script_core.specs.Environment.{start}
+use Rattle.script_core.specs.Steps.{all_taken}
+use Rattle.script_core.proofs.FollowingTokens.{list_runs}
+use Rattle.script_core.proofs.SoundRuns.{script_sound}
+use Rattle.script_core.proofs.TakingTokens.{IsTaken, some_of}
+
+pub empty_sound : (script : Kept) → script ≡ empty_script → IsSound script
+empty_sound script e = subst IsSound (sym e) (script_sound empty_script [] (record { commands = []; env = start; cause = all_taken }) refl refl refl (omega arith))
+
+pub list_sound : (tokens : List Token) (c n : Checker) (tok : Tok) (o : Option (Sexp Tok)) (t : Sexp Tok) (r : Result Progress Stop) → Awaits tokens (token_of c.scope.world.names tok ∷ []) c → IsNameTable c.scope.world.names
+    → tok.name < length c.scope.world.names → o ≡ Some t → (c.builder.1 ≡ None → IfSome o (IsTaken c tok)) → IsSound c.scope.world.script → length (accepted_by n) < 2 ^ 32 - 1
+    → IfOk r (λ goes. TakesTree c.scope t goes n.scope) → OnErr r (n.scope.world.script ≡ c.scope.world.script) → IsSound n.scope.world.script
+list_sound tokens c n tok o t (Ok goes) w table named e tree sound few takes same =
+    let taken = some_of (IsTaken c tok) o t e (tree w.follows.no_error) in
+    let runs = list_runs tokens c n tok t goes w table named taken.1 takes in
+    script_sound n.scope.world.script runs.0 runs.1 runs.2 runs.3 (takes.defines_nothing ∙ w.follows.undefined) few
+list_sound tokens c n tok o t (Err stop) w table named e tree sound few takes same = subst IsSound (sym same) sound
