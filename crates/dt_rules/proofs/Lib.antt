@@ -1,0 +1,13 @@
+pub mod AddedParts
+pub mod CoverageTests
+pub mod Gaining
+pub mod KnownDatatypes
+pub mod Lists
+pub mod MemberArities
+pub mod Mentions
+pub mod PatternLaws
+pub mod PatternSteps
+pub mod Settling
+pub mod SettledMembers
+pub mod UnsettledLists
+pub mod ReadyGroups

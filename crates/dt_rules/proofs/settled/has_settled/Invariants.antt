@@ -1,0 +1,13 @@
+use Rattle.std.proofs.Common.{map, take}
+use Rattle.sort_store.specs.Interned.{AllInterned, Grows}
+use Rattle.sort_store.specs.Tree.{tree}
+use Rattle.dt_rules.specs.Settling.{HasConstructorWithout}
+use Rattle.dt_rules.proofs.settled.has_settled.Given as goal
+
+-- each constructor so far has a field whose sort is in the list
+abbrev pub invariant-loop-constructor : goal.invariant-loop-constructor
+invariant-loop-constructor l = record {
+  grows : Grows l.fn.sorts l.sorts;
+  interned : AllInterned l.sorts l.args;
+  none : HasConstructorWithout (take l.constructor-index l.constructors) (map tree l.args) (map tree l.unsettled) → ⊥;
+}

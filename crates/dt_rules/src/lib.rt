@@ -1,0 +1,17 @@
+//! The rules on datatypes and on the patterns of `match`.
+#![tactic(auto)]
+
+mod check;
+mod coverage;
+mod error;
+mod group;
+mod pattern;
+mod settled;
+
+pub use check::check_group;
+pub use coverage::covers;
+pub use error::{DtError, TyError};
+pub use pattern::check_pattern;
+
+#[cfg(test)]
+mod tests;
