@@ -1,1 +1,14 @@
 pub mod NamedLogics
+pub mod FoundParts
+pub mod WalkedTerms
+pub mod SortParts
+pub mod OtherArrays
+pub mod Lookups
+pub mod Weights
+pub mod Standing
+pub mod Walking
+pub mod Texts
+pub mod IntegerMeanings
+pub mod Pairs
+pub mod DifferenceMeanings
+pub mod FirstBroken

@@ -29,8 +29,11 @@ quantified_sorts _ = []
 abbrev pub sorts_at : Occurrence → List Sort
 sorts_at o = plain_sort o.its ∷ quantified_sorts o.its
 
+abbrev pub constructor_sorts : PlainConstructor → List Sort
+constructor_sorts c = map (λ (f : PlainField). f.sort) c.fields
+
 abbrev pub field_sorts : PlainDatatype → List Sort
-field_sorts t = flat_map (λ (c : PlainConstructor). map (λ (f : PlainField). f.sort) c.fields) t.constructors
+field_sorts t = flat_map constructor_sorts t.constructors
 
 abbrev pub signature_sorts : PlainDef → List Sort
 signature_sorts d = map (λ v. v.1) d.params ++ d.result ∷ []

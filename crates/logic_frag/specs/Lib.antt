@@ -5,3 +5,16 @@ pub mod StandsFor
 pub mod IntegerTerms
 pub mod ArraySorts
 pub mod FragmentRules
+pub mod TermSearch
+pub mod SortSearch
+pub mod TermKinds
+pub mod ScopeFrames
+pub mod ScopeLinks
+pub mod SeenTerms
+pub mod Following
+pub mod Walk
+pub mod Weights
+pub mod IntegerTests
+pub mod IntegerRules
+pub mod Laws
+pub mod DifferenceTests

@@ -1,4 +1,6 @@
-//! The table of the logics, as it was fixed for this project.
+//! The table of the logics, as it was fixed for this project, and commands worked by hand.
+mod breaks;
+
 use super::{ArrayPart as Arrays, NumPart as Ints, logic_of};
 
 // What a name of the table allows: the letters of its flags, the integers, the arrays, the bit vectors.

@@ -1,0 +1,12 @@
+use Rattle.std.proofs.Common.{◌≡◌, drop}
+use Rattle.std.specs.List.{list_any}
+use Rattle.term_store.specs.NumberedNodes.{terms}
+use Rattle.term_store.specs.Term.{trees}
+use Rattle.logic_frag.specs.Following.{context_in}
+use Rattle.logic_frag.specs.IntegerTerms.{each_seen_in}
+use Rattle.logic_frag.specs.IntegerTests.{is_factor}
+use Rattle.logic_frag.specs.ScopeFrames.{scope_of}
+use Rattle.logic_frag.proofs.linear.any_factor.Given as goal
+
+abbrev pub invariant-loop-arg : goal.invariant-loop-arg
+invariant-loop-arg l = list_any (is_factor (context_in l.known)) (each_seen_in (scope_of l.scope) (trees (terms (drop l.arg-index l.args)))) ≡ list_any (is_factor (context_in l.known)) (each_seen_in (scope_of l.scope) (trees (terms l.args)))
