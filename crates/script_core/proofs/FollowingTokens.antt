@@ -33,6 +33,7 @@ use Rattle.script_core.specs.declared.refusal.Refusal.{Refusal}
 use Rattle.script_core.specs.Acceptance.{place_of}
 use Rattle.script_core.specs.Checking.{Awaits, Exits, Follows, HasTaken, HasTokensOf, IsReadyScope, TakesTree, TokenBreaks, accepted_by, environment_of, progress_of, texts_of}
 use Rattle.script_core.specs.Environment.{Environment, core_alone, start}
+use Rattle.script_core.specs.Keeping.{KeepsDefined}
 use Rattle.script_core.specs.Interned.{AreInterned, sexp_of}
 use Rattle.script_core.specs.Numbering.{numbered_sexp, table_after}
 use Rattle.script_core.specs.Steps.{Run, Runs, exited, is_exit, judge_list, judge_tree}
@@ -103,7 +104,7 @@ follows_inside tokens c tok new w named held unfinished fine =
       interned = subst (λ (s : State). AreInterned c.scope.world.names s.0) (sym held) (interned_last c.scope.world.names u tok f.interned named);
       table = subst (λ (s : State). c.scope.world.names ≡ table_after f.names (texts_of c.scope.world.names s.0)) (sym held)
           (next_table w.known tokens c (token_of c.scope.world.names tok) f w.names ∙ ap (λ (fs : List (FlatToken Token)). table_after f.names fs) (sym last));
-      undefined = f.undefined;
+      keeps = f.keeps;
       stands = f.stands;
     }
 
@@ -162,7 +163,7 @@ follows_list tokens c n tok t w table named is_list e emptied same takes stands 
       runs = subst (λ (cs : List PlainCommand). Runs start (f.lists ++ sexp_of c.scope.world.names t ∷ []) (all_of cs after)) (sym takes.put_last) runs;
       interned = subst (λ (s : State). AreInterned n.scope.world.names s.0) (sym emptied) tt;
       table = subst (λ (s : State). n.scope.world.names ≡ table_after c.scope.world.names (texts_of n.scope.world.names s.0)) (sym emptied) same;
-      undefined = takes.defines_nothing ∙ f.undefined;
+      keeps = takes.keeps f.keeps;
       stands = stands;
     }
 
@@ -274,7 +275,7 @@ follows_grown known tokens c new lexer e f =
       runs = f.runs;
       interned = grown_interned c.scope.world.names new c.builder.0 e f.interned;
       table = f.table ∙ ap (λ (fs : List (FlatToken Token)). table_after f.names fs) (sym same);
-      undefined = f.undefined;
+      keeps = f.keeps;
       stands = record { ready = ready_with_names c.scope.world new e f.stands.ready; undeclared = f.stands.undeclared };
     }
 
@@ -297,7 +298,7 @@ starts c builder logic theories scopes next script read names table stands few =
         ∙ ap (λ (n : ℕ). record { names = fixed_texts; logic = false; theories = core_alone; declarations = no_declarations; next = n }) next))));
     interned = subst (λ (s : State). AreInterned c.scope.world.names s.0) (sym builder) tt;
     table = subst (λ (s : State). c.scope.world.names ≡ table_after c.scope.world.names (texts_of c.scope.world.names s.0)) (sym builder) refl;
-    undefined = ap (λ (k : Kept). k.defs) script;
+    keeps = subst KeepsDefined (sym script) (record { defs = refl; no_datatypes = refl });
     stands = stands;
   };
   table = table;

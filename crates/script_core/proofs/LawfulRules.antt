@@ -1,5 +1,5 @@
 -- Each list has exactly one outcome as the next command.
-use Rattle.std.proofs.Common.{◌≡◌, ℕ, Bool, true, false, List, [], ◌∷◌, ◌++◌, refl, ap, sym, ◌⊎◌, inl, inr}
+use Rattle.std.proofs.Common.{◌≡◌, ℕ, Bool, true, false, IsTrue, List, [], ◌∷◌, ◌++◌, refl, ap, sym, ◌⊎◌, inl, inr}
 use Rattle.std.proofs.lemmas.Bool.{false≢true}
 use Rattle.lex_core.specs.Token.{Token}
 use Rattle.lex_core.specs.declared.place.Place.{Place}
@@ -7,21 +7,27 @@ use Rattle.lex_core.specs.declared.token.Tok.{Tok}
 use Rattle.sexp_core.specs.Sexp.{Sexp}
 use Rattle.judgement.specs.Judging.{Outcome, Lawful, well_sorted, ill_sorted}
 use Rattle.judgement.proofs.JudgementLaws.{fault_once, lawful-check, lawful-done, lawful-find, lawful-refuse, lawful-then, never_both, option_decided, test_decided, value_once, value_or_fault}
-use Rattle.term_grammar.specs.Syntax.{Term, constant, qualified_term, application, let_in, for_all, there_exists, match_with, annotated, Terms, no_terms, with_term}
-use Rattle.cmd_grammar.specs.Commands.{Command, Literal, assert, check_sat_assuming, declare_const, declare_fun, declare_sort, define_sort, echo, exit, get_info, get_option, pop, push, reset, reset_assertions, set_info, set_logic, set_option}
+use Rattle.term_grammar.specs.Syntax as syntax
+use Rattle.term_grammar.specs.Syntax.{SortedSymbol, Term, constant, qualified_term, application, let_in, for_all, there_exists, match_with, annotated, Terms, no_terms, with_term, Bindings, no_bindings, with_binding, Notes, no_notes, with_note, Note, named_note, pattern_note, attribute_note}
+use Rattle.cmd_grammar.specs.Commands.{Command, FunDec, Literal, assert, check_sat_assuming, declare_const, declare_fun, declare_sort, define_fun, define_fun_rec, define_funs_rec, define_sort, echo, exit, get_info, get_option, get_value, pop, push, reset, reset_assertions, set_info, set_logic, set_option}
 use Rattle.cmd_grammar.specs.Grammar.{IsGrammarFault, ReadsCommand}
 use Rattle.cmd_grammar.proofs.GrammarAgrees.{one_command, one_of_both, not_both}
 use Rattle.cmd_grammar.proofs.GrammarAgrees as grammar
 use Rattle.typer.proofs.SortLaws.{at_most, lawful-sort, lawful-sorts}
-use Rattle.typer.proofs.TermLaws.{lawful-term}
+use Rattle.typer.proofs.TermLaws.{lawful-term, lawful-terms}
+use Rattle.theory_core.proofs.SortsDecided.{sort_decided}
 use Rattle.sort_store.specs.CoreRanks.{bool}
 use Rattle.sort_store.specs.declared.head.Head.TheVariants as head
 use Rattle.sort_store.specs.Tree.{Sort, sort, no_sorts, more_sorts}
 use Rattle.term_store.specs.Command.{PlainCommand}
+use Rattle.term_store.specs.Command as typed
+use Rattle.logic_frag.specs.FragmentRules.{DefinesRecursively, HasTerm, IsQuantifier}
+use Rattle.logic_frag.proofs.FoundParts.{has_quantified}
+use Rattle.script_core.specs.RuleAnswers.{is_quantified}
 use Rattle.term_store.specs.Term.{plain_sort}
-use Rattle.script_core.specs.Environment.{Environment}
+use Rattle.script_core.specs.Environment.{Environment, signature_in}
 use Rattle.script_core.specs.Numbering.{numbered_sexp}
-use Rattle.script_core.specs.Rules.{is_built, judge_all_built, judge_bool, judge_built, judge_command, judge_form, judge_literals, judge_mode, judge_params, judge_parts, unchanging}
+use Rattle.script_core.specs.Rules.{Header, has_named, is_built, judge_all_built, judge_bindings_built, judge_body, judge_bool, judge_built, judge_command, judge_form, judge_fragment, judge_header, judge_headers, judge_literals, judge_member, judge_members, judge_mode, judge_note_built, judge_notes_built, judge_params, judge_parts, judge_variable, judge_variables, unchanging, with_header, with_headers}
 use Rattle.script_core.specs.Steps.{ListFault, ListSteps, judge_grammar, judge_list, judge_tree, with_names}
 
 lawful-grammar : (t : Sexp Tok) → Lawful (judge_grammar t)
@@ -47,18 +53,35 @@ mutual
   lawful-built (constant c) = lawful-done _
   lawful-built (qualified_term q) = lawful-done _
   lawful-built (application at q ts) = lawful-all_built ts
-  lawful-built (let_in at bs u) = lawful-refuse _ _
-  lawful-built (for_all at vs u) = lawful-refuse _ _
-  lawful-built (there_exists at vs u) = lawful-refuse _ _
+  lawful-built (let_in at bs u) = lawful-then _ _ (lawful-bindings_built bs) (λ v. lawful-built u)
+  lawful-built (for_all at vs u) = lawful-built u
+  lawful-built (there_exists at vs u) = lawful-built u
   lawful-built (match_with at u cs) = lawful-refuse _ _
-  lawful-built (annotated at u ns) = lawful-refuse _ _
+  lawful-built (annotated at u ns) = lawful-then _ _ (lawful-check _ _ _ (is_false (has_named ns))) (λ v. lawful-then _ _ (lawful-built u) (λ w. lawful-notes_built ns))
 
   lawful-all_built : (ts : Terms) → Lawful (judge_all_built ts)
   lawful-all_built no_terms = lawful-done _
   lawful-all_built (with_term t ts) = lawful-then _ _ (lawful-built t) (λ u. lawful-all_built ts)
 
+  lawful-bindings_built : (bs : Bindings) → Lawful (judge_bindings_built bs)
+  lawful-bindings_built no_bindings = lawful-done _
+  lawful-bindings_built (with_binding at x t bs) = lawful-then _ _ (lawful-built t) (λ u. lawful-bindings_built bs)
+
+  lawful-notes_built : (ns : Notes) → Lawful (judge_notes_built ns)
+  lawful-notes_built no_notes = lawful-done _
+  lawful-notes_built (with_note n ns) = lawful-then _ _ (lawful-note_built n) (λ u. lawful-notes_built ns)
+
+  lawful-note_built : (n : Note) → Lawful (judge_note_built n)
+  lawful-note_built (named_note t) = lawful-done _
+  lawful-note_built (pattern_note ts) = lawful-all_built ts
+  lawful-note_built (attribute_note a) = lawful-done _
+
 lawful-form : (at : ℕ) (c : Command) → Lawful (judge_form at c)
 lawful-form at (assert t) = lawful-built t
+lawful-form at (define_fun f) = lawful-built f.body
+lawful-form at (define_fun_rec f) = lawful-built f.body
+lawful-form at (define_funs_rec fs ts) = lawful-all_built ts
+lawful-form at (get_value ts) = lawful-all_built ts
 lawful-form at c = lawful-check _ _ _ (test_decided (is_built c))
 
 lawful-mode : (env : Environment) (at : ℕ) (c : Command) → Lawful (judge_mode env at c)
@@ -84,11 +107,37 @@ bool_decided (sort head.Bool (more_sorts t ts)) = inr (λ e. cc)
 bool_decided (sort h ts) = inr (λ e. cc)
 
 lawful-bool : (env : Environment) (t : Term) → Lawful (judge_bool env t)
-lawful-bool env t = lawful-then _ _ (lawful-term _ _ t) (λ u. lawful-then _ _ (lawful-check _ _ _ (bool_decided (plain_sort u))) (λ v. lawful-done _))
+lawful-bool env t = lawful-then _ _ (lawful-term (signature_in env) t []) (λ u. lawful-then _ _ (lawful-check _ _ _ (bool_decided (plain_sort u))) (λ v. lawful-done _))
 
 lawful-literals : (env : Environment) (ls : List Literal) → Lawful (judge_literals env ls)
 lawful-literals env [] = lawful-done _
 lawful-literals env (l ∷ ls) = lawful-then _ _ (lawful-bool env _) (λ u. lawful-then _ _ (lawful-literals env ls) (λ us. lawful-done _))
+
+lawful-variable : (env : Environment) (before : List ℕ) (p : SortedSymbol) → Lawful (judge_variable env before p)
+lawful-variable env before p = lawful-then _ _ (lawful-check _ _ _ (is_false _)) (λ u. lawful-then _ _ (lawful-sort _ _ _ _ p.sort) (λ s. lawful-done _))
+
+lawful-variables : (env : Environment) (before : List ℕ) (ps : List SortedSymbol) → Lawful (judge_variables env before ps)
+lawful-variables env before [] = lawful-done _
+lawful-variables env before (p ∷ ps) = lawful-then _ _ (lawful-variable env before p) (λ v. lawful-then _ _ (lawful-variables env (before ++ v.0 ∷ []) ps) (λ vs. lawful-done _))
+
+lawful-header : (env : Environment) (n : Tok) (ps : List SortedSymbol) (s : syntax.Sort) → Lawful (judge_header env n ps s)
+lawful-header env n ps s =
+    lawful-then _ _ (lawful-check _ _ _ (is_false _)) (λ u. lawful-then _ _ (lawful-variables env [] ps) (λ vs. lawful-then _ _ (lawful-sort _ _ _ _ s) (λ r. lawful-done _)))
+
+lawful-body : (env : Environment) (h : Header) (t : Term) → Lawful (judge_body env h t)
+lawful-body env h t = lawful-then _ _ (lawful-term (signature_in env) t h.params) (λ u. lawful-then _ _ (lawful-check _ _ _ (sort_decided (plain_sort u) h.result)) (λ v. lawful-done _))
+
+lawful-headers : (env : Environment) (fs : List FunDec) → Lawful (judge_headers env fs)
+lawful-headers env [] = lawful-done _
+lawful-headers env (f ∷ fs) = lawful-then _ _ (lawful-header env f.name f.params f.result) (λ h. lawful-then _ _ (lawful-headers (with_header env h) fs) (λ hs. lawful-done _))
+
+lawful-member : (env : Environment) (h : Header) (t : Term) → Lawful (judge_member env h t)
+lawful-member env h t = lawful-then _ _ (lawful-body env h t) (λ u. lawful-done _)
+
+lawful-members : (env : Environment) (at : ℕ) (hs : List Header) (ts : Terms) → Lawful (judge_members env at hs ts)
+lawful-members env at [] ts = lawful-done _
+lawful-members env at (h ∷ hs) no_terms = lawful-refuse _ _
+lawful-members env at (h ∷ hs) (with_term t ts) = lawful-then _ _ (lawful-member env h t) (λ d. lawful-then _ _ (lawful-members env at hs ts) (λ ds. lawful-done _))
 
 lawful-parts : (env : Environment) (at : ℕ) (c : Command) → Lawful (judge_parts env at c)
 lawful-parts env at (assert t) = lawful-then _ _ (lawful-bool env t) (λ u. lawful-done _)
@@ -101,6 +150,10 @@ lawful-parts env at (declare_sort n a) =
     lawful-then _ _ (lawful-check _ _ _ (is_false _)) (λ u. lawful-then _ _ (lawful-check _ _ _ (at_most _ _)) (λ v. lawful-done _))
 lawful-parts env at (define_sort n ps s) =
     lawful-then _ _ (lawful-check _ _ _ (is_false _)) (λ u. lawful-then _ _ (lawful-params [] ps) (λ v. lawful-then _ _ (lawful-sort _ _ _ _ s) (λ body. lawful-done _)))
+lawful-parts env at (define_fun f) = lawful-then _ _ (lawful-header env f.name f.params f.result) (λ h. lawful-then _ _ (lawful-body env h f.body) (λ u. lawful-done _))
+lawful-parts env at (define_fun_rec f) = lawful-then _ _ (lawful-header env f.name f.params f.result) (λ h. lawful-then _ _ (lawful-body (with_header env h) h f.body) (λ u. lawful-done _))
+lawful-parts env at (define_funs_rec fs ts) = lawful-then _ _ (lawful-headers env fs) (λ hs. lawful-then _ _ (lawful-members (with_headers env hs) at hs ts) (λ ds. lawful-done _))
+lawful-parts env at (get_value ts) = lawful-then _ _ (lawful-terms (signature_in env) ts []) (λ us. lawful-done _)
 lawful-parts env at (set_logic n) = lawful-done _
 lawful-parts env at (set_option a) = lawful-done _
 lawful-parts env at (push n) = lawful-done _
@@ -109,8 +162,26 @@ lawful-parts env at reset = lawful-done _
 lawful-parts env at reset_assertions = lawful-done _
 lawful-parts env at c = lawful-then _ _ (lawful-find _ _ _ (option_decided (unchanging c))) (λ d. lawful-done _)
 
+allowed_decided : (P : Type 0) (q b : Bool) → (IsTrue q → P) → (P → IsTrue q) → (P → IsTrue b) ⊎ ((P → IsTrue b) → ⊥)
+allowed_decided P q true into out = inl (λ p. refl)
+allowed_decided P true false into out = inr (λ f. false≢true (f (into refl)))
+allowed_decided P false false into out = inl (λ p. absurd (false≢true (out p)))
+
+quantifier_decided : (c : PlainCommand) (b : Bool) → (HasTerm c (λ o. IsQuantifier o.its) → IsTrue b) ⊎ ((HasTerm c (λ o. IsQuantifier o.its) → IsTrue b) → ⊥)
+quantifier_decided c b = let h = has_quantified (is_quantified c) c refl in allowed_decided (HasTerm c (λ o. IsQuantifier o.its)) (is_quantified c) b h.0 h.1
+
+recursion_decided : (c : PlainCommand) (b : Bool) → (DefinesRecursively c → IsTrue b) ⊎ ((DefinesRecursively c → IsTrue b) → ⊥)
+recursion_decided c true = inl (λ h. refl)
+recursion_decided (typed.define_fun_rec d) false = inr (λ f. false≢true (f tt))
+recursion_decided (typed.define_funs_rec ds) false = inr (λ f. false≢true (f tt))
+recursion_decided c false = inl (λ h. absurd h)
+
+lawful-fragment : (env : Environment) (at : ℕ) (c : PlainCommand) → Lawful (judge_fragment env at c)
+lawful-fragment env at c = lawful-then _ _ (lawful-check _ _ _ (quantifier_decided c env.theories.ints)) (λ u. lawful-check _ _ _ (recursion_decided c env.theories.ints))
+
 lawful-command : (env : Environment) (at : ℕ) (c : Command) → Lawful (judge_command env at c)
-lawful-command env at c = lawful-then _ _ (lawful-form at c) (λ u. lawful-then _ _ (lawful-mode env at c) (λ v. lawful-parts env at c))
+lawful-command env at c = lawful-then _ _ (lawful-form at c)
+    (λ u. lawful-then _ _ (lawful-mode env at c) (λ v. lawful-then _ _ (lawful-parts env at c) (λ made. lawful-then _ _ (lawful-fragment env at made.0) (λ w. lawful-done _))))
 
 pub lawful-tree : (env : Environment) (t : Sexp Tok) → Lawful (judge_tree env t)
 lawful-tree env t = lawful-then _ _ (lawful-grammar t) (λ c. lawful-command env _ c)

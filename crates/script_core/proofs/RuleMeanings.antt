@@ -1,21 +1,27 @@
 -- What the rules answer as functions is what the relation of the rules says.
-use Rattle.std.proofs.Common.{◌≡◌, ℕ, ◌+◌, ◌≤◌, nat_le, Bool, true, false, not, ◌&&◌, ◌==◌, ◌<◌, List, [], ◌∷◌, ◌++◌, length, Result, Ok, Err, IsTrue, refl, ap, sym, ◌∙◌, subst, inl, inr}
+use Rattle.std.proofs.Common.{◌≡◌, ℕ, ◌+◌, ◌≤◌, nat_le, Bool, true, false, not, ◌&&◌, ◌||◌, ◌==◌, ◌<◌, List, [], ◌∷◌, ◌++◌, length, map, Option, Some, None, append_assoc, append-nil, Result, Ok, Err, IsTrue, refl, ap, sym, ◌∙◌, subst, inl, inr}
 use Rattle.std.specs.Option.{is_some}
 use Rattle.std.proofs.lemmas.Bool.{false≢true, le-leb, leb-true}
 use Rattle.std.proofs.lemmas.List.{map-append}
+use Rattle.std.proofs.Math.Seq.{take-length}
 use Rattle.lex_core.specs.declared.place.Place.{Place}
 use Rattle.lex_core.specs.declared.token.Tok.{Tok}
 use Rattle.sig_table.specs.declared.code.Code.{Code}
 use Rattle.sig_table.specs.declared.code.Code.TheVariants as code
-use Rattle.sexp_core.specs.Sexp.{FlatToken, Opening, Closing, Word, Sexp, atom, list, Sexps, cons, flat, flat_all}
-use Rattle.judgement.specs.Judging.{Judging, Outcome, ◌>>=◌, check, ill_sorted, well_sorted}
+use Rattle.sexp_core.specs.Sexp.{FlatToken, Opening, Closing, Word, Sexp, atom, list, Sexps, cons, nil, flat, flat_all}
+use Rattle.judgement.specs.Judging.{Judging, Outcome, ◌>>=◌, check, done, ill_sorted, well_sorted}
 use Rattle.term_grammar.specs.declared.words.TheConstants.{GLOBAL_DECLARATIONS}
 use Rattle.term_grammar.specs.Reads.{byte_of}
-use Rattle.term_grammar.specs.Syntax.{Term, constant, qualified_term, application, let_in, for_all, there_exists, match_with, annotated, Terms, no_terms, with_term}
-use Rattle.term_store.specs.Command.{PlainCommand, plain_command}
-use Rattle.cmd_grammar.specs.Commands.{Command, assert, declare_const, declare_fun, declare_sort, define_sort, echo, exit, get_info, get_option, pop, push, reset, set_info, set_logic, set_option}
+use Rattle.term_grammar.specs.Syntax.{Term, constant, qualified_term, application, let_in, for_all, there_exists, match_with, annotated, Terms, no_terms, with_term, Bindings, no_bindings, with_binding, Notes, no_notes, with_note, Note, named_note, pattern_note, attribute_note}
+use Rattle.term_store.specs.Command.{PlainCommand, PlainDef, plain_command, plain_def}
+use Rattle.term_store.specs.Command as typed
+use Rattle.term_store.specs.Declarations.{Declaration, declared_by, declared_in}
+use Rattle.term_store.specs.declared.command.Def.{Def}
+use Rattle.logic_frag.specs.FragmentRules.{DefinesRecursively, HasTerm, IsQuantifier, own_definitions}
+use Rattle.logic_frag.proofs.FoundParts.{has_quantified}
+use Rattle.cmd_grammar.specs.Commands.{Command, FunDec, assert, declare_const, declare_fun, declare_sort, define_fun, define_fun_rec, define_funs_rec, define_sort, echo, exit, get_info, get_option, get_value, pop, push, reset, set_info, set_logic, set_option}
 use Rattle.cmd_grammar.specs.CommandReads.{read_command}
-use Rattle.cmd_grammar.specs.Grammar.{ReadsCommand}
+use Rattle.cmd_grammar.specs.Grammar.{ReadsCommand, ReadsEach, ReadsFunDec}
 use Rattle.cmd_grammar.proofs.GrammarAgrees.{found_fault, found_reads}
 use Rattle.cmd_grammar.specs.CommandAnswers.{Answers as ReadAnswers}
 use Rattle.cmd_grammar.specs.declared.command.GrError.{GrError}
@@ -28,12 +34,17 @@ use Rattle.term_store.specs.Script.{Kept, commands_of}
 use Rattle.term_store.specs.declared.command.TypedCommand.{TypedCommand}
 use Rattle.script_core.specs.declared.scope.Scope.{Scope}
 use Rattle.script_core.specs.Checking.{AnswersTree, TakesTree, environment_of, progress_of}
-use Rattle.script_core.specs.Effects.{AnswersParts, IsDeclaredNamed, IsInMode}
+use Rattle.script_core.specs.Effects.{Answers, AnswersParts, AreNamed, IsDeclaredNamed, IsInMode}
 use Rattle.script_core.specs.Environment.{Environment, logic_theories, text_of}
 use Rattle.script_core.specs.Interned.{AreInterned}
-use Rattle.script_core.specs.RuleAnswers.{Answer, answer_all_built, answer_built, answer_form, answer_mode, both, test}
-use Rattle.script_core.specs.Rules.{attribute_key, is_built, judge_all_built, judge_built, judge_command, judge_form, judge_mode, judge_parts, value_of}
+use Rattle.script_core.specs.Keeping.{EachUnused, KeepsBelow, KeepsDefined, KeepsEarlier, KeepsPart, defined_by, defined_in, definitions_in, with_definitions, with_some}
+use Rattle.script_core.specs.RuleAnswers.{Answer, answer_all_built, answer_bindings_built, answer_built, answer_form, answer_fragment, answer_mode, answer_note_built, answer_notes_built, both, is_quantified, is_recursive, test}
+use Rattle.script_core.specs.Rules.{has_named, is_built, judge_all_built, judge_bindings_built, judge_built, judge_command, judge_form, judge_fragment, judge_mode, judge_note_built, judge_notes_built, judge_parts, value_of}
+use Rattle.typer.specs.TermRules.{attribute_key}
 use Rattle.script_core.specs.Steps.{is_exit, judge_tree}
+use Rattle.script_core.proofs.KeptNumbers.{each_unused, part_earlier}
+use Rattle.script_core.proofs.SoundNumbers.{AscendFrom, ascend_from}
+use Rattle.script_core.proofs.StepNumbers.{definitions_ascend, definitions_own, tree_numbered}
 
 -- the judgement has this outcome, where no name is declared
 abbrev pub IsMet : {A : Type 0} → Judging A → Result A Place → Type 0
@@ -65,18 +76,37 @@ mutual
   built_met (constant c) = (refl, refl)
   built_met (qualified_term q) = (refl, refl)
   built_met (application at q ts) = all_built_met ts
-  built_met (let_in at bs u) = refl
-  built_met (for_all at vs u) = refl
-  built_met (there_exists at vs u) = refl
+  built_met (let_in at bs u) = then_met (judge_bindings_built bs) (judge_built u) (answer_bindings_built bs) (answer_built u) (bindings_built_met bs) (built_met u)
+  built_met (for_all at vs u) = built_met u
+  built_met (there_exists at vs u) = built_met u
   built_met (match_with at u cs) = refl
-  built_met (annotated at u ns) = refl
+  built_met (annotated at u ns) =
+      then_met (check (has_named ns ≡ false) code.WrongTermForm at) (judge_built u >>= λ _. judge_notes_built ns) (test (not (has_named ns)) code.WrongTermForm at) (both (answer_built u) (answer_notes_built ns))
+      (not_met (has_named ns) code.WrongTermForm at) (then_met (judge_built u) (judge_notes_built ns) (answer_built u) (answer_notes_built ns) (built_met u) (notes_built_met ns))
 
   all_built_met : (ts : Terms) → IsMet (judge_all_built ts) (answer_all_built ts)
   all_built_met no_terms = (refl, refl)
   all_built_met (with_term t ts) = then_met (judge_built t) (judge_all_built ts) (answer_built t) (answer_all_built ts) (built_met t) (all_built_met ts)
 
+  bindings_built_met : (bs : Bindings) → IsMet (judge_bindings_built bs) (answer_bindings_built bs)
+  bindings_built_met no_bindings = (refl, refl)
+  bindings_built_met (with_binding at x t bs) = then_met (judge_built t) (judge_bindings_built bs) (answer_built t) (answer_bindings_built bs) (built_met t) (bindings_built_met bs)
+
+  notes_built_met : (ns : Notes) → IsMet (judge_notes_built ns) (answer_notes_built ns)
+  notes_built_met no_notes = (refl, refl)
+  notes_built_met (with_note n ns) = then_met (judge_note_built n) (judge_notes_built ns) (answer_note_built n) (answer_notes_built ns) (note_built_met n) (notes_built_met ns)
+
+  note_built_met : (n : Note) → IsMet (judge_note_built n) (answer_note_built n)
+  note_built_met (named_note t) = (refl, refl)
+  note_built_met (pattern_note ts) = all_built_met ts
+  note_built_met (attribute_note a) = (refl, refl)
+
 form_met : (at : ℕ) (c : Command) → IsMet (judge_form at c) (answer_form at c)
 form_met at (assert t) = built_met t
+form_met at (define_fun f) = built_met f.body
+form_met at (define_fun_rec f) = built_met f.body
+form_met at (define_funs_rec fs ts) = all_built_met ts
+form_met at (get_value ts) = all_built_met ts
 form_met at c = is_met (is_built c) code.WrongCommandForm at
 
 mode_met : (env : Environment) (at : ℕ) (c : Command) → IsMet (judge_mode env at c) (answer_mode env at c)
@@ -100,6 +130,39 @@ mode_met env at (pop n) =
     (test env.logic code.LogicNotSet at) (test (nat_le (value_of env n) (depth env.declarations)) code.TooFewLevels at)
     (is_met env.logic code.LogicNotSet at) (most_met (value_of env n) (depth env.declarations) code.TooFewLevels at)
 mode_met env at c = is_met env.logic code.LogicNotSet at
+
+-- only what is recursive is asked of the logic
+-- what the logic does not allow
+allowed_met : (P : Type 0) (q b : Bool) (rule : Code) (at : ℕ) → (IsTrue q → P) → (P → IsTrue q) → IsMet (check (P → IsTrue b) rule at) (test (not q || b) rule at)
+allowed_met P true b rule at into out = test_met (P → IsTrue b) b rule at (λ e p. e) (λ e h. false≢true (sym e ∙ h (into refl)))
+allowed_met P false b rule at into out = ((λ p. absurd (false≢true (out p))), refl)
+
+-- two tests of one rule are the same
+pub quantified_same : (b : Bool) (c : PlainCommand) → (IsTrue b → HasTerm c (λ o. IsQuantifier o.its)) × (HasTerm c (λ o. IsQuantifier o.its) → IsTrue b) → b ≡ is_quantified c
+quantified_same b c h = let k = has_quantified (is_quantified c) c refl in one_truth b (is_quantified c) (λ e. k.1 (h.0 e)) (λ e. h.1 (k.0 e))
+  where
+    one_truth : (a b : Bool) → (IsTrue a → IsTrue b) → (IsTrue b → IsTrue a) → a ≡ b
+    one_truth true b f g = sym (f refl)
+    one_truth false true f g = g refl
+    one_truth false false f g = refl
+
+recursive_if : (c : PlainCommand) → IsTrue (is_recursive c) → DefinesRecursively c
+recursive_if (typed.define_fun_rec d) e = tt
+recursive_if (typed.define_funs_rec ds) e = tt
+recursive_if c e = absurd (false≢true e)
+
+if_recursive : (c : PlainCommand) → DefinesRecursively c → IsTrue (is_recursive c)
+if_recursive (typed.define_fun_rec d) h = refl
+if_recursive (typed.define_funs_rec ds) h = refl
+if_recursive c h = absurd h
+
+fragment_met : (env : Environment) (at : ℕ) (c : PlainCommand) → IsMet (judge_fragment env at c) (answer_fragment env.theories at c)
+fragment_met env at c =
+    let h = has_quantified (is_quantified c) c refl in
+    then_met (check (HasTerm c (λ o. IsQuantifier o.its) → IsTrue env.theories.ints) code.QuantifierOutsideLogic at) (check (DefinesRecursively c → IsTrue env.theories.ints) code.RecursionOutsideLogic at)
+    (test (not (is_quantified c) || env.theories.ints) code.QuantifierOutsideLogic at) (test (not (is_recursive c) || env.theories.ints) code.RecursionOutsideLogic at)
+    (allowed_met (HasTerm c (λ o. IsQuantifier o.its)) (is_quantified c) env.theories.ints code.QuantifierOutsideLogic at h.0 h.1)
+    (allowed_met (DefinesRecursively c) (is_recursive c) env.theories.ints code.RecursionOutsideLogic at (recursive_if c) (if_recursive c))
 
 -- a logic is set, or none, where the mode is right
 first_right : (r s : Answer) → both r s ≡ Ok tt → r ≡ Ok tt
@@ -134,19 +197,27 @@ in_mode env at c e = test_right env.logic code.LogicNotSet at e
 pub command_in_mode : (env : Environment) (at : ℕ) (c : Command) → both (answer_form at c) (answer_mode env at c) ≡ Ok tt → IsInMode env.logic c
 command_in_mode env at c e = in_mode env at c (second_right (answer_form at c) (answer_mode env at c) e)
 
+-- the typed command, as it is answered
+abbrev pub typed_in : Environment → TypedCommand → PlainCommand × Environment
+typed_in env c = (plain_command c, env)
+
+-- the parts of a command, and whether the logic allows it
+abbrev judge_rest : Environment → ℕ → Command → Judging (PlainCommand × Environment)
+judge_rest env at c = judge_parts env at c >>= (λ made. judge_fragment env at made.0 >>= (λ w. done made))
+
 -- the tree is read as no command
-pub tree_no_command : (env : Environment) (t : Sexp Tok) (e : GrError) (p : Place) → e ≡ grammar.Fault p → ReadAnswers t (Err e) → judge_tree env t [] (ill_sorted p)
-tree_no_command env t e p is h = inl (found_fault t p (subst (λ (x : GrError). ReadAnswers t (Err x)) is h))
+pub tree_no_command : (env new : Environment) (t : Sexp Tok) (e : GrError) (p : Place) → e ≡ grammar.Fault p → ReadAnswers t (Err e) → Answers (judge_tree env t) (typed_in new) (Err (error.Broken p))
+tree_no_command env new t e p is h = inl (found_fault t p (subst (λ (x : GrError). ReadAnswers t (Err x)) is h))
 
 -- the tree is read as a command whose form or mode breaks a rule
-pub tree_broken : (env : Environment) (t : Sexp Tok) (c : Command) (at : ℕ) (p : Place) → read_command t ≡ Ok c → at ≡ byte_of t → both (answer_form at c) (answer_mode env at c) ≡ Err p
-    → judge_tree env t [] (ill_sorted p)
-tree_broken env t c at p read here says =
+pub tree_broken : (env new : Environment) (t : Sexp Tok) (c : Command) (at : ℕ) (p : Place) → read_command t ≡ Ok c → at ≡ byte_of t → both (answer_form at c) (answer_mode env at c) ≡ Err p
+    → Answers (judge_tree env t) (typed_in new) (Err (error.Broken p))
+tree_broken env new t c at p read here says =
     inr (
       c,
       [],
       (found_reads t c read, refl),
-      first_broken (judge_form (byte_of t) c) (judge_mode env (byte_of t) c) (judge_parts env (byte_of t) c) (answer_form (byte_of t) c) (answer_mode env (byte_of t) c) p
+      first_broken (judge_form (byte_of t) c) (judge_mode env (byte_of t) c) (judge_rest env (byte_of t) c) (answer_form (byte_of t) c) (answer_mode env (byte_of t) c) p
           (form_met (byte_of t) c) (mode_met env (byte_of t) c) (subst (λ (n : ℕ). both (answer_form n c) (answer_mode env n c) ≡ Err p) here says),
     )
   where
@@ -155,45 +226,107 @@ tree_broken env t c at p read here says =
     first_broken I J K (Ok u) (Err x) p i j e = let h : x ≡ p = cc in inr (tt, [], i, inl (subst (λ (y : Place). J [] (ill_sorted y)) h j))
     first_broken I J K (Err x) s p i j e = let h : x ≡ p = cc in inl (subst (λ (y : Place). I [] (ill_sorted y)) h i)
 
--- the form and the mode of the command are right
-command_after : (env : Environment) (at : ℕ) (c : Command) (o : Outcome (PlainCommand × Environment)) → both (answer_form at c) (answer_mode env at c) ≡ Ok tt → judge_parts env at c [] o → judge_command env at c [] o
-command_after env at c o says parts = met (judge_form at c) (judge_mode env at c) (judge_parts env at c) (answer_form at c) (answer_mode env at c) o (form_met at c) (mode_met env at c) says parts
-  where
-    met : (I J : Judging (Unit {0})) (K : Judging (PlainCommand × Environment)) (r s : Answer) (o : Outcome (PlainCommand × Environment)) → IsMet I r → IsMet J s → both r s ≡ Ok tt → K [] o → (I >>= λ u. J >>= λ v. K) [] o
-    met I J K (Ok u) (Ok v) (well_sorted x after) i j e k = (tt, [], i, (tt, [], j, k))
-    met I J K (Ok u) (Ok v) (ill_sorted p) i j e k = inr (tt, [], i, inr (tt, [], j, k))
-    met I J K (Ok u) (Err x) o i j e k = cc
-    met I J K (Err x) s o i j e k = cc
+-- A tree that is read as a command, whose form and mode are right.
+module _ (env new : Environment) (t : Sexp Tok) (c : Command) (at : ℕ) (read : read_command t ≡ Ok c) (here : at ≡ byte_of t) (says : both (answer_form at c) (answer_mode env at c) ≡ Ok tt) where
+  command_after : (o : Outcome (PlainCommand × Environment)) → judge_rest env at c [] o → judge_command env at c [] o
+  command_after o rest = met (judge_form at c) (judge_mode env at c) (judge_rest env at c) (answer_form at c) (answer_mode env at c) o (form_met at c) (mode_met env at c) says rest
+    where
+      met : (I J : Judging (Unit {0})) (K : Judging (PlainCommand × Environment)) (r s : Answer) (o : Outcome (PlainCommand × Environment)) → IsMet I r → IsMet J s → both r s ≡ Ok tt → K [] o → (I >>= λ u. J >>= λ v. K) [] o
+      met I J K (Ok u) (Ok v) (well_sorted x after) i j e k = (tt, [], i, (tt, [], j, k))
+      met I J K (Ok u) (Ok v) (ill_sorted p) i j e k = inr (tt, [], i, inr (tt, [], j, k))
+      met I J K (Ok u) (Err x) o i j e k = cc
+      met I J K (Err x) s o i j e k = cc
 
--- the tree is read as a command, whose parts have this outcome
-judged_parts : (env : Environment) (t : Sexp Tok) (c : Command) (at : ℕ) (o : Outcome (PlainCommand × Environment)) → read_command t ≡ Ok c → at ≡ byte_of t → both (answer_form at c) (answer_mode env at c) ≡ Ok tt
-    → judge_parts env at c [] o → judge_tree env t [] o
-judged_parts env t c at (well_sorted x after) read here says parts =
-    (c, [], (found_reads t c read, refl), subst (λ (n : ℕ). judge_command env n c [] (well_sorted x after)) here (command_after env at c (well_sorted x after) says parts))
-judged_parts env t c at (ill_sorted p) read here says parts =
-    inr (c, [], (found_reads t c read, refl), subst (λ (n : ℕ). judge_command env n c [] (ill_sorted p)) here (command_after env at c (ill_sorted p) says parts))
+  judged_rest : (o : Outcome (PlainCommand × Environment)) → judge_rest env at c [] o → judge_tree env t [] o
+  judged_rest (well_sorted x after) rest =
+      (c, [], (found_reads t c read, refl), subst (λ (n : ℕ). judge_command env n c [] (well_sorted x after)) here (command_after (well_sorted x after) rest))
+  judged_rest (ill_sorted p) rest =
+      inr (c, [], (found_reads t c read, refl), subst (λ (n : ℕ). judge_command env n c [] (ill_sorted p)) here (command_after (ill_sorted p) rest))
+
+  -- its parts break a rule or want memory
+  pub tree_refused : (e : StepError) → AnswersParts env at c (Err e) new → Answers (judge_tree env t) (typed_in new) (Err e)
+  tree_refused error.NoMemory parts = tt
+  tree_refused (error.Broken p) parts = judged_rest (ill_sorted p) (inl parts)
+
+  module _ (command : TypedCommand) (r : Answer) (parts : AnswersParts env at c (Ok command) new) (asked : r ≡ answer_fragment env.theories at (plain_command command)) where
+    met_here : IsMet (judge_fragment env at (plain_command command)) r
+    met_here = subst (λ (x : Answer). IsMet (judge_fragment env at (plain_command command)) x) (sym asked) (fragment_met env at (plain_command command))
+
+    -- the logic allows it, or not
+    pub tree_allowed : r ≡ Ok tt → Answers (judge_tree env t) (typed_in new) (Ok command)
+    tree_allowed fine =
+        judged_rest (well_sorted (typed_in new command) []) (typed_in new command, [], parts, (tt, [], subst (λ (x : Answer). IsMet (judge_fragment env at (plain_command command)) x) fine met_here, (refl, refl)))
+
+    pub tree_outside : (p : Place) → r ≡ Err p → Answers (judge_tree env t) (typed_in new) (Err (error.Broken p))
+    tree_outside p bad = judged_rest (ill_sorted p) (inr (typed_in new command, [], parts, inl (subst (λ (x : Answer). IsMet (judge_fragment env at (plain_command command)) x) bad met_here)))
+
+-- the tree breaks a rule, or wants memory
+pub tree_fault : (old after : Scope) (new : Environment) (t : Sexp Tok) (e : StepError) → Answers (judge_tree (environment_of old.world.names old) t) (typed_in new) (Err e) → AnswersTree old t (Err e) after
+tree_fault old after new t error.NoMemory h = tt
+tree_fault old after new t (error.Broken p) h = h
+
+pub no_memory : (old after : Scope) (t : Sexp Tok) (e : StepError) → e ≡ error.NoMemory → AnswersTree old t (Err e) after
+no_memory old after t e is = subst (λ (x : StepError). AnswersTree old t (Err x) after) (sym is) tt
+
+tree_ascends : (old : Scope) (new : Environment) (t : Sexp Tok) (c : TypedCommand) → Answers (judge_tree (environment_of old.world.names old) t) (typed_in new) (Ok c) → AscendFrom old.next (map (λ (d : Def). d.no.0) (definitions_in c))
+tree_ascends old new t c h =
+    definitions_ascend c old.next (ascend_from old.next _ new.next (tree_numbered (environment_of old.world.names old) t (plain_command c) new [] h).ascend)
+
+-- nothing is kept yet under the numbers of a command's definitions
+pub tree_unused : (old : Scope) (new : Environment) (t : Sexp Tok) (c : TypedCommand) (script : Kept) → KeepsBelow old.next old.world.script.defs → Answers (judge_tree (environment_of old.world.names old) t) (typed_in new) (Ok c)
+    → script ≡ old.world.script → EachUnused script.defs (definitions_in c)
+tree_unused old new t c script below h same =
+    subst (λ (k : Kept). EachUnused k.defs (definitions_in c)) (sym same) (each_unused old.world.script.defs (definitions_in c) old.next below (tree_ascends old new t c h))
+
+-- where only some definitions are kept, or all of them, but no command
+pub some_kept : (old : Scope) (new : Environment) (t : Sexp Tok) (c : TypedCommand) (script after : Kept) → Answers (judge_tree (environment_of old.world.names old) t) (typed_in new) (Ok c) → script ≡ old.world.script
+    → KeepsPart script (definitions_in c) after → KeepsEarlier old.next old.world.script after
+some_kept old new t c script after h same part =
+    part_earlier old.world.script after (definitions_in c) old.next (tree_ascends old new t c h) (subst (λ (k : Kept). KeepsPart k (definitions_in c) after) same part)
+
+pub all_kept : (old : Scope) (new : Environment) (t : Sexp Tok) (c : TypedCommand) (script after : Kept) → Answers (judge_tree (environment_of old.world.names old) t) (typed_in new) (Ok c) → script ≡ old.world.script
+    → after ≡ with_definitions script (definitions_in c) → KeepsEarlier old.next old.world.script after
+all_kept old new t c script after h same kept =
+    some_kept old new t c script after h same (length (definitions_in c), kept ∙ ap (with_definitions script) (sym (take-length (definitions_in c))))
+
+defined_joined : (xs ys : List Declaration) → defined_in (xs ++ ys) ≡ defined_in xs ++ defined_in ys
+defined_joined [] ys = refl
+defined_joined (x ∷ xs) ys = put (defined_by x) (defined_joined xs ys)
+  where
+    put : (o : Option PlainDef) → defined_in (xs ++ ys) ≡ defined_in xs ++ defined_in ys → with_some o (defined_in (xs ++ ys)) ≡ with_some o (defined_in xs) ++ defined_in ys
+    put None rest = rest
+    put (Some d) rest = ap (λ ds. d ∷ ds) rest
+
+declared_more : (cs : List PlainCommand) (c : PlainCommand) → declared_in (cs ++ c ∷ []) ≡ declared_in cs ++ declared_by c
+declared_more [] c = append-nil (declared_by c)
+declared_more (d ∷ cs) c = ap (λ ds. declared_by d ++ ds) (declared_more cs c) ∙ sym (append_assoc (declared_by d) (declared_in cs) (declared_by c))
+
+defined_more : (cs : List PlainCommand) (c : PlainCommand) → defined_in (declared_in (cs ++ c ∷ [])) ≡ defined_in (declared_in cs) ++ defined_in (declared_by c)
+defined_more cs c = ap defined_in (declared_more cs c) ∙ defined_joined (declared_in cs) (declared_by c)
+
+-- the definitions of the commands are kept
+keeps_more : (old kept new : Kept) (c : TypedCommand) → defined_in (declared_by (plain_command c)) ≡ own_definitions (plain_command c) → kept ≡ with_definitions old (definitions_in c)
+    → new ≡ record { commands = kept.commands ++ c ∷ []; defs = kept.defs } → KeepsDefined old → KeepsDefined new
+keeps_more old kept new c own with_own pushed keeps =
+    subst KeepsDefined (sym (pushed ∙ ap (λ (k : Kept). record { commands = k.commands ++ c ∷ []; defs = k.defs }) with_own)) (record {
+      defs = map-append plain_def old.defs.defs (definitions_in c) ∙ (ap (λ ds. ds ++ map plain_def (definitions_in c)) keeps.defs
+          ∙ (ap (λ ds. defined_in (declared_in (commands_of old)) ++ ds) (definitions_own c ∙ sym own) ∙ sym (ap (λ cs. defined_in (declared_in cs)) (map-append plain_command old.commands (c ∷ [])) ∙ defined_more (commands_of old) (plain_command c))));
+      no_datatypes = keeps.no_datatypes;
+    })
 
 -- the tree is read as a command, which is put last
-pub tree_takes : (old mid : Scope) (script : Kept) (t : Sexp Tok) (c : Command) (at : ℕ) (command : TypedCommand) (p : Progress) → read_command t ≡ Ok c → at ≡ byte_of t
-    → both (answer_form at c) (answer_mode (environment_of old.world.names old) at c) ≡ Ok tt
-    → AnswersParts (environment_of old.world.names old) at c (Ok command) (environment_of old.world.names mid) → mid.world.script ≡ old.world.script
-    → script ≡ record { commands = mid.world.script.commands ++ command ∷ []; defs = mid.world.script.defs }
-    → p ≡ progress_of (is_exit (plain_command command)) → TakesTree old t p (record mid { world = record mid.world { script = script } })
-tree_takes old mid script t c at command p read here says parts kept pushed goes = record {
-  command = plain_command command;
+pub tree_takes : (old mid : Scope) (kept after : Kept) (t : Sexp Tok) (c : TypedCommand) (p : Progress) → Answers (judge_tree (environment_of old.world.names old) t) (typed_in (environment_of old.world.names mid)) (Ok c)
+    → mid.world.script ≡ old.world.script → kept ≡ with_definitions mid.world.script (definitions_in c) → after ≡ record { commands = kept.commands ++ c ∷ []; defs = kept.defs }
+    → p ≡ progress_of (is_exit (plain_command c)) → TakesTree old t p (record mid { world = record mid.world { script = after } })
+tree_takes old mid kept after t c p h same with_own pushed goes = record {
+  command = plain_command c;
   declared = [];
-  judged = judged_parts (environment_of old.world.names old) t c at (well_sorted (plain_command command, environment_of old.world.names mid) []) read here says parts;
+  judged = h;
   goes_on = goes;
-  put_last = ap commands_of pushed ∙ (map-append plain_command mid.world.script.commands (command ∷ []) ∙ ap (λ (k : Kept). commands_of k ++ plain_command command ∷ []) kept);
-  defines_nothing = ap (λ (k : Kept). k.defs) pushed ∙ ap (λ (k : Kept). k.defs) kept;
+  put_last = ap commands_of pushed ∙ (map-append plain_command kept.commands (c ∷ []) ∙ (ap (λ (k : Kept). commands_of k ++ plain_command c ∷ []) with_own ∙ ap (λ (k : Kept). commands_of k ++ plain_command c ∷ []) same));
+  keeps = keeps_more old.world.script kept after c (tree_numbered (environment_of old.world.names old) t (plain_command c) (environment_of old.world.names mid) [] h).own
+      (with_own ∙ ap (λ (k : Kept). with_definitions k (definitions_in c)) same) pushed;
 }
-
--- the tree is read as a command, whose parts break a rule or want memory
-pub tree_refused : (old new after : Scope) (t : Sexp Tok) (c : Command) (at : ℕ) (e : StepError) → read_command t ≡ Ok c → at ≡ byte_of t
-    → both (answer_form at c) (answer_mode (environment_of old.world.names old) at c) ≡ Ok tt
-    → AnswersParts (environment_of old.world.names old) at c (Err e) (environment_of old.world.names new) → AnswersTree old t (Err e) after
-tree_refused old new after t c at error.NoMemory read here says parts = tt
-tree_refused old new after t c at (error.Broken p) read here says parts = judged_parts (environment_of old.world.names old) t c at (ill_sorted p) read here says parts
 
 second_interned : (texts : List (List ℕ)) (at : ℕ) (a b : Tok) (rest : List (FlatToken Tok)) → AreInterned texts (Opening at ∷ Word a ∷ Word b ∷ rest) → b.name < length texts
 second_interned texts at a b rest (x, (y, z)) = y
@@ -202,11 +335,40 @@ second_interned texts at a b rest (x, (y, z)) = y
 name_begun : (texts : List (List ℕ)) (t : Sexp Tok) (at : ℕ) (w n : Tok) (ts : Sexps Tok) → AreInterned texts (flat t) → t ≡ list at (cons (atom w) (cons (atom n) ts)) → n.name < length texts
 name_begun texts t at w n ts h e = second_interned texts at w n (flat_all ts ++ Closing ∷ []) (subst (λ (x : Sexp Tok). AreInterned texts (flat x)) e h)
 
+left_interned : (texts : List (List ℕ)) (xs ys : List (FlatToken Tok)) → AreInterned texts (xs ++ ys) → AreInterned texts xs
+left_interned texts [] ys h = tt
+left_interned texts (Opening at ∷ xs) ys h = left_interned texts xs ys h
+left_interned texts (Closing ∷ xs) ys h = left_interned texts xs ys h
+left_interned texts (Word tok ∷ xs) ys h = (h.0, left_interned texts xs ys h.1)
+
+right_interned : (texts : List (List ℕ)) (xs ys : List (FlatToken Tok)) → AreInterned texts (xs ++ ys) → AreInterned texts ys
+right_interned texts [] ys h = h
+right_interned texts (Opening at ∷ xs) ys h = right_interned texts xs ys h
+right_interned texts (Closing ∷ xs) ys h = right_interned texts xs ys h
+right_interned texts (Word tok ∷ xs) ys h = right_interned texts xs ys h.1
+
+-- the name of a function that is declared is one of its list
+dec_named : (texts : List (List ℕ)) (t : Sexp Tok) (f : FunDec) → AreInterned texts (flat t) → ReadsFunDec t f → f.name.name < length texts
+dec_named texts t f h r = (subst (λ (x : Sexp Tok). AreInterned texts (flat x)) r.3 h).0
+
+decs_named : (texts : List (List ℕ)) (ts : Sexps Tok) (fs : List FunDec) → AreInterned texts (flat_all ts) → ReadsEach ReadsFunDec ts fs → AreNamed texts fs
+decs_named texts ts [] h r = tt
+decs_named texts ts (f ∷ fs) h (u, us, e, one, others) =
+    let all = subst (λ (x : Sexps Tok). AreInterned texts (flat_all x)) e h in
+    (dec_named texts u f (left_interned texts (flat u) (flat_all us) all) one, decs_named texts us fs (right_interned texts (flat u) (flat_all us) all) others)
+
+group_interned : (texts : List (List ℕ)) (at b : ℕ) (w : Tok) (ts rest : Sexps Tok) → AreInterned texts (flat (list at (cons (atom w) (cons (list b ts) rest)))) → AreInterned texts (flat_all ts)
+group_interned texts at b w ts rest h = left_interned texts (flat_all ts) (Closing ∷ []) (left_interned texts (flat (list b ts)) (flat_all rest) (left_interned texts (flat (list b ts) ++ flat_all rest) (Closing ∷ []) h.1))
+
 declared_named : (texts : List (List ℕ)) (t : Sexp Tok) (c : Command) → AreInterned texts (flat t) → ReadsCommand t c → IsDeclaredNamed texts c
 declared_named texts t (declare_const n s) h r = name_begun texts t r.1.0 r.1.1 n _ h r.1.2
 declared_named texts t (declare_fun n ss s) h r = name_begun texts t r.3.0 r.3.1 n _ h r.3.2
 declared_named texts t (declare_sort n a) h r = name_begun texts t r.0.0 r.0.1 n _ h r.0.2
 declared_named texts t (define_sort n ps s) h r = name_begun texts t r.2.0 r.2.1 n _ h r.2.2
+declared_named texts t (define_fun f) h r = name_begun texts t r.1.0 r.1.1 f.name _ h (r.1.2 ∙ ap (λ (ts : Sexps Tok). list r.1.0 (cons (atom r.1.1) ts)) r.2.4)
+declared_named texts t (define_fun_rec f) h r = name_begun texts t r.1.0 r.1.1 f.name _ h (r.1.2 ∙ ap (λ (ts : Sexps Tok). list r.1.0 (cons (atom r.1.1) ts)) r.2.4)
+declared_named texts t (define_funs_rec fs us) h r =
+    decs_named texts r.1 fs (group_interned texts r.4.0 r.0 r.4.1 r.1 (cons (list r.2 r.3) nil) (subst (λ (x : Sexp Tok). AreInterned texts (flat x)) r.4.2 h)) r.6
 declared_named texts t c h r = tt
 
 pub command_named : (texts : List (List ℕ)) (t : Sexp Tok) (c : Command) → AreInterned texts (flat t) → read_command t ≡ Ok c → IsDeclaredNamed texts c

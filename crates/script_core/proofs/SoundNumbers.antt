@@ -1,14 +1,45 @@
 -- Numbers that are given one after the other are distinct, and levels keep their number where something is declared.
-use Rattle.std.proofs.Common.{◌≡◌, ℕ, zero, suc, ◌+◌, ◌-◌, ◌≤◌, Bool, true, false, List, [], ◌∷◌, length, replicate, Some, refl, ap, ◌∙◌, arith, length-append}
+use Rattle.std.proofs.Common.{◌≡◌, ℕ, zero, suc, ◌+◌, ◌-◌, ◌<◌, ◌≤◌, Bool, true, false, List, [], ◌∷◌, ◌++◌, length, replicate, Some, refl, ap, ◌∙◌, arith, length-append}
 use Rattle.std.specs.Prelude.{slice_get}
 use Rattle.std.proofs.lemmas.List.{length-replicate, length-take-le}
 use Rattle.scope_stack.specs.Levels.{Levels, add_last, closed, declared, opened, with_last}
 use Rattle.term_store.specs.SoundTerms.{AreDistinct}
+use Rattle.typer.proofs.LiveDeclarations.{Each}
 
 -- each number is one of those from n on, and greater than those before it
 abbrev pub AscendFrom : ℕ → List ℕ → Type 0
 AscendFrom n [] = Unit {0}
 AscendFrom n (m ∷ ms) = (n ≤ m) × AscendFrom (m + 1) ms
+
+-- .. and less than a number past them all
+abbrev pub AscendTo : ℕ → List ℕ → ℕ → Type 0
+AscendTo n [] top = n ≤ top
+AscendTo n (m ∷ ms) top = (n ≤ m) × AscendTo (m + 1) ms top
+
+pub ascend_span : (n : ℕ) (ms : List ℕ) (top : ℕ) → AscendTo n ms top → n ≤ top
+ascend_span n [] top h = h
+ascend_span n (m ∷ ms) top h = omega (arith, h.0, ascend_span (m + 1) ms top h.1)
+
+pub ascend_from : (n : ℕ) (ms : List ℕ) (top : ℕ) → AscendTo n ms top → AscendFrom n ms
+ascend_from n [] top h = tt
+ascend_from n (m ∷ ms) top h = (h.0, ascend_from (m + 1) ms top h.1)
+
+ascend_later : (n low : ℕ) (ms : List ℕ) (top : ℕ) → low ≤ n → AscendTo n ms top → AscendTo low ms top
+ascend_later n low [] top l h = omega (arith, l, h)
+ascend_later n low (m ∷ ms) top l h = (omega (arith, l, h.0), h.1)
+
+-- some numbers, and others after them
+pub ascend_on : (n : ℕ) (ms : List ℕ) (mid : ℕ) (ks : List ℕ) (top : ℕ) → AscendTo n ms mid → AscendTo mid ks top → AscendTo n (ms ++ ks) top
+ascend_on n [] mid ks top h k = ascend_later mid n ks top h k
+ascend_on n (m ∷ ms) mid ks top h k = (h.0, ascend_on (m + 1) ms mid ks top h.1 k)
+
+pub ascend_below : (n : ℕ) (ms : List ℕ) (top : ℕ) → AscendTo n ms top → Each (λ m. m < top) ms
+ascend_below n [] top h = tt
+ascend_below n (m ∷ ms) top h = (omega (arith, ascend_span (m + 1) ms top h.1), ascend_below (m + 1) ms top h.1)
+
+pub ascend_first : (n : ℕ) (ms ks : List ℕ) → AscendFrom n (ms ++ ks) → AscendFrom n ms
+ascend_first n [] ks h = tt
+ascend_first n (m ∷ ms) ks h = (h.0, ascend_first (m + 1) ms ks h.1)
 
 pub ascend_lower : (n low : ℕ) (ms : List ℕ) → low ≤ n → AscendFrom n ms → AscendFrom low ms
 ascend_lower n low [] l h = tt

@@ -1,5 +1,5 @@
 -- The commands of every text are sound, those before a refusal too.
-use Rattle.std.proofs.Common.{◌≡◌, ℕ, ◌-◌, ◌<◌, ◌^◌, Bool, List, [], ◌∷◌, ◌++◌, length, map, refl, sym, subst, inl, inr, arith}
+use Rattle.std.proofs.Common.{◌≡◌, ℕ, ◌-◌, ◌<◌, ◌^◌, Bool, List, [], ◌∷◌, ◌++◌, length, map, refl, ap, sym, ◌∙◌, subst, inl, inr, arith}
 use Rattle.std.specs.List.{All, Contains}
 use Rattle.std.proofs.lemmas.List.{length-map}
 use Rattle.std.proofs.lemmas.List.Elements.{Contains-append_left, Contains-append_right}
@@ -9,19 +9,21 @@ use Rattle.lex_core.specs.Token.{Token}
 use Rattle.sexp_core.specs.Sexp.{FlatToken, Opening, Closing, Word, Sexp, flat}
 use Rattle.term_store.specs.Command.{PlainCommand, plain_command}
 use Rattle.term_store.specs.Declarations.{Declaration, declared_by, declared_in, number_given}
-use Rattle.term_store.specs.Definitions.{Definitions, no_definitions}
+use Rattle.term_store.specs.declared.command.TypedCommand.{TypedCommand}
 use Rattle.term_store.specs.Script.{Kept, commands_of}
 use Rattle.term_store.specs.SoundScript.{AreSoundCommands, IsSound, IsSoundCommand, IsSoundDeclaration, KeepsDeclared, KeepsLevels}
-use Rattle.typer.proofs.LiveDeclarations.{Each, all_of_each}
+use Rattle.typer.proofs.LiveDeclarations.{Each, all_of_each, each_of_all}
 use Rattle.typer.specs.Declarations.{depth}
-use Rattle.typer.specs.Soundness.{IsSoundSignature}
 use Rattle.script_core.specs.declared.refusal.Refusal.{Refusal}
 use Rattle.script_core.specs.Acceptance.{Refuses, Sofar}
-use Rattle.script_core.specs.Environment.{Environment, signature_in, start}
+use Rattle.script_core.specs.Environment.{Environment, start}
+use Rattle.script_core.specs.Keeping.{KeepsBelow, KeepsDefined, KeepsEarlier, defined_in}
 use Rattle.script_core.specs.Numbering.{table_after}
 use Rattle.script_core.specs.Steps.{ListSteps, Run, Runs, with_names}
-use Rattle.script_core.proofs.SoundNumbers.{AscendFrom, distinct_numbers}
-use Rattle.script_core.proofs.SoundSteps.{Declares, IsSoundStep, IsSoundSymbol, parts_step}
+use Rattle.script_core.proofs.KeptNumbers.{IsNoDatatype, each_kept, kept_below}
+use Rattle.script_core.proofs.SoundNumbers.{ascend_below, ascend_from, distinct_numbers}
+use Rattle.script_core.proofs.SoundSteps.{Declares, IsSoundEnv, IsSoundStep, IsSoundSymbol, parts_step}
+use Rattle.script_core.proofs.StepNumbers.{run_numbered}
 
 -- the table stays one after more tokens
 table_stays : (tokens : List (FlatToken Token)) (texts : List (List ℕ)) → IsNameTable texts → IsNameTable (table_after texts tokens)
@@ -30,17 +32,19 @@ table_stays (Opening at ∷ tokens) texts h = table_stays tokens texts h
 table_stays (Closing ∷ tokens) texts h = table_stays tokens texts h
 table_stays (Word token ∷ tokens) texts h = table_stays tokens (with_text texts token.name) (table_kept texts token.name h)
 
-list_step : (script : List Declaration) (env : Environment) (t : Sexp Token) (c : PlainCommand) (new : Environment) → IsSoundSignature script (signature_in env) → ListSteps env t c new → Declares script c
-    → IsSoundStep script env c new
-list_step script env t c new sound (declared, (raw, between, reads, (u, first, form, (v, second, mode, parts)))) declares =
-    let named : IsSoundSignature script (signature_in (with_names env t)) = record { table = table_stays (flat t) env.names sound.table; sorts = sound.sorts; funs = sound.funs } in
-    let s = parts_step script (with_names env t) named _ raw c new first second second declared mode parts declares in
-    record { signature = s.signature; levels = s.levels; numbers = s.numbers; declarations = s.declarations; command = s.command }
+list_step : (script : List Declaration) (env : Environment) (t : Sexp Token) (c : PlainCommand) (new : Environment) → IsSoundEnv script env → ListSteps env t c new → Declares script c → IsSoundStep script env c new
+list_step script env t c new sound (declared, (raw, between, reads, (u, first, form, (v, second, mode, (made, third, parts, (w, fourth, fragment, (e, f))))))) declares =
+    let named : IsSoundEnv script (with_names env t) = record {
+      signature = record { table = table_stays (flat t) env.names sound.signature.table; sorts = sound.signature.sorts; funs = sound.signature.funs };
+      below = sound.below;
+    } in
+    let known = subst (λ (p : PlainCommand × Environment). Declares script p.0) e declares in
+    let s = parts_step script (with_names env t) named _ raw made.0 made.1 first second second third mode parts known in
+    subst (λ (p : PlainCommand × Environment). IsSoundStep script env p.0 p.1) (sym e) (record { leads = s.leads; levels = s.levels; declarations = s.declarations; command = s.command })
 
 -- the commands of a run are sound, where the script declares all that they declare
 pub record IsSoundRun (script : List Declaration) (env : Environment) (commands : List PlainCommand) : Type 0 where
   pub levels : KeepsLevels (depth env.declarations) commands
-  pub numbers : AscendFrom env.next (map number_given (declared_in commands))
   pub declarations : Each (IsSoundSymbol script) (declared_in commands)
   pub each : Each (IsSoundCommand script) commands
 
@@ -57,12 +61,11 @@ abbrev pub DeclaresAll : List Declaration → List PlainCommand → Type 0
 DeclaresAll script commands = (d : Declaration) → Contains (declared_in commands) d → Contains script d
 
 no_commands : (script : List Declaration) (env : Environment) → IsSoundRun script env []
-no_commands script env = record { levels = tt; numbers = tt; declarations = tt; each = tt }
+no_commands script env = record { levels = tt; declarations = tt; each = tt }
 
 one_command : (script : List Declaration) (env after : Environment) (c : PlainCommand) (commands : List PlainCommand) → IsSoundStep script env c after → IsSoundRun script after commands → IsSoundRun script env (c ∷ commands)
 one_command script env after c commands s rest = record {
   levels = s.levels commands rest.levels;
-  numbers = s.numbers (declared_in commands) rest.numbers;
   declarations = each_append (IsSoundSymbol script) (declared_by c) (declared_in commands) s.declarations rest.declarations;
   each = (s.command, rest.each);
 }
@@ -73,7 +76,7 @@ first_declared script c commands all d h = all d (Contains-append_left (declared
 others_declared : (script : List Declaration) (c : PlainCommand) (commands : List PlainCommand) → DeclaresAll script (c ∷ commands) → DeclaresAll script commands
 others_declared script c commands all d h = all d (Contains-append_right (declared_by c) (declared_in commands) d h)
 
-run_sound : (script : List Declaration) (ts : List (Sexp Token)) (env : Environment) (run : Run) → Runs env ts run → IsSoundSignature script (signature_in env) → DeclaresAll script run.commands → IsSoundRun script env run.commands
+run_sound : (script : List Declaration) (ts : List (Sexp Token)) (env : Environment) (run : Run) → Runs env ts run → IsSoundEnv script env → DeclaresAll script run.commands → IsSoundRun script env run.commands
 run_sound script [] env run e sound all = subst (λ (r : Run). IsSoundRun script env r.commands) (sym e) (no_commands script env)
 run_sound script (t ∷ ts) env run (inl (place, fault, e)) sound all = subst (λ (r : Run). IsSoundRun script env r.commands) (sym e) (no_commands script env)
 run_sound script (t ∷ ts) env run (inr (inl (c, after, steps, exits, e))) sound all =
@@ -83,10 +86,10 @@ run_sound script (t ∷ ts) env run (inr (inr (c, after, steps, goes, rest, runs
     let known = subst (λ (r : Run). DeclaresAll script r.commands) e all in
     let s = list_step script env t c after sound steps (first_declared script c rest.commands known) in
     subst (λ (r : Run). IsSoundRun script env r.commands) (sym e)
-    (one_command script env after c rest.commands s (run_sound script ts after rest runs s.signature (others_declared script c rest.commands known)))
+    (one_command script env after c rest.commands s (run_sound script ts after rest runs s.leads (others_declared script c rest.commands known)))
 
-start_sound : (script : List Declaration) → IsSoundSignature script (signature_in start)
-start_sound script = record { table = record { fixed = refl; distinct = refl }; sorts = all_of_each _ [] tt; funs = all_of_each _ [] tt }
+start_sound : (script : List Declaration) → IsSoundEnv script start
+start_sound script = record { signature = record { table = record { fixed = refl; distinct = refl }; sorts = all_of_each _ [] tt; funs = all_of_each _ [] tt }; below = all_of_each _ [] tt }
 
 from_start : (ts : List (Sexp Token)) (run : Run) → Runs start ts run → IsSoundRun (declared_in run.commands) start run.commands
 from_start ts run runs = run_sound (declared_in run.commands) ts start run runs (start_sound (declared_in run.commands)) (λ d h. h)
@@ -96,7 +99,7 @@ commands_sound ts run runs =
     let script = declared_in run.commands in
     let r = from_start ts run runs in record {
       levels = r.levels;
-      numbers = distinct_numbers 0 _ r.numbers;
+      numbers = distinct_numbers 0 _ (ascend_from 0 _ run.env.next (run_numbered ts start run runs));
       declarations = all_of_each (IsSoundDeclaration script) script (each_of (IsSoundSymbol script) (IsSoundDeclaration script) script (λ d h. h.0) r.declarations);
       each = all_of_each (IsSoundCommand script) run.commands r.each;
     }
@@ -107,12 +110,34 @@ sofar_sound bytes ended cs x = subst AreSoundCommands (sym x.accepted) (commands
 pub refuses_sound : (bytes : List ℕ) (ended : Bool) (cs : List PlainCommand) (r : Refusal) → Refuses bytes ended cs r → AreSoundCommands cs
 refuses_sound bytes ended cs r x = subst AreSoundCommands (sym x.accepted) (commands_sound x.judged.lists x.run x.judged.runs)
 
--- a script that holds the commands of a run, and defines nothing
-pub script_sound : (script : Kept) (ts : List (Sexp Token)) (run : Run) → Runs start ts run → commands_of script ≡ run.commands → script.defs ≡ no_definitions → length (commands_of script) < 2 ^ 32 - 1 → IsSound script
-script_sound script ts run runs same none few =
+-- a script that holds the commands of a run, and keeps their definitions
+pub script_sound : (script : Kept) (ts : List (Sexp Token)) (run : Run) → Runs start ts run → commands_of script ≡ run.commands → KeepsDefined script → length (commands_of script) < 2 ^ 32 - 1 → IsSound script
+script_sound script ts run runs same keeps few =
     let declared = declared_in run.commands in
-    let kept = all_of_each (KeepsDeclared no_definitions) declared (each_of (IsSoundSymbol declared) (KeepsDeclared no_definitions) declared (λ d h. h.1) (from_start ts run runs).declarations) in record {
+    let fine = each_of (IsSoundSymbol declared) IsNoDatatype declared (λ d h. h.1) (from_start ts run runs).declarations in
+    let kept = each_kept script.defs declared 0 (keeps.defs ∙ ap (λ (cs : List PlainCommand). defined_in (declared_in cs)) same) keeps.no_datatypes (ascend_from 0 _ run.env.next (run_numbered ts start run runs)) fine in record {
       few = omega (arith, few, length-map script.commands plain_command);
       commands_sound = subst AreSoundCommands (sym same) (commands_sound ts run runs);
-      kept = subst (λ (k : Definitions). All (KeepsDeclared k) (declared_in (commands_of script))) (sym none) (subst (λ (cs : List PlainCommand). All (KeepsDeclared no_definitions) (declared_in cs)) (sym same) kept);
+      kept = subst (λ (cs : List PlainCommand). All (KeepsDeclared script.defs) (declared_in cs)) (sym same) (all_of_each (KeepsDeclared script.defs) declared kept);
     }
+
+-- all that is kept has a number below the next one
+pub run_below : (script : Kept) (ts : List (Sexp Token)) (run : Run) → Runs start ts run → commands_of script ≡ run.commands → KeepsDefined script → KeepsBelow run.env.next script.defs
+run_below script ts run runs same keeps =
+    kept_below script.defs (declared_in run.commands) 0 run.env.next (keeps.defs ∙ ap (λ (cs : List PlainCommand). defined_in (declared_in cs)) same) keeps.no_datatypes (run_numbered ts start run runs)
+
+-- a script with the same commands, which keeps for them what it kept
+pub earlier_sound : (old new : Kept) (ts : List (Sexp Token)) (run : Run) → Runs start ts run → commands_of old ≡ run.commands → KeepsEarlier run.env.next old new → IsSound old → IsSound new
+earlier_sound old new ts run runs same earlier sound =
+    let commands : commands_of new ≡ commands_of old = ap (map plain_command) earlier.commands in
+    let declared = declared_in (commands_of old) in
+    let below = subst (λ (cs : List PlainCommand). Each (λ (n : ℕ). n < run.env.next) (map number_given (declared_in cs))) (sym same) (ascend_below 0 _ run.env.next (run_numbered ts start run runs)) in record {
+      few = subst (λ (cs : List TypedCommand). length cs < 2 ^ 32 - 1) (sym earlier.commands) sound.few;
+      commands_sound = subst AreSoundCommands (sym commands) sound.commands_sound;
+      kept = subst (λ (cs : List PlainCommand). All (KeepsDeclared new.defs) (declared_in cs)) (sym commands)
+          (all_of_each (KeepsDeclared new.defs) declared (still_kept declared below (each_of_all (KeepsDeclared old.defs) declared sound.kept)));
+    }
+  where
+    still_kept : (ds : List Declaration) → Each (λ (n : ℕ). n < run.env.next) (map number_given ds) → Each (KeepsDeclared old.defs) ds → Each (KeepsDeclared new.defs) ds
+    still_kept [] low h = tt
+    still_kept (d ∷ ds) low h = (earlier.kept d low.0 h.0, still_kept ds low.1 h.1)

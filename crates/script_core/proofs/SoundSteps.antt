@@ -1,50 +1,61 @@
 -- An accepted command is sound, and it leaves a sound signature, where the script declares what is live and what the command
 -- declares.
-use Rattle.std.proofs.Common.{◌≡◌, ℕ, ◌+◌, ◌≤◌, ◌==◌, true, List, [], ◌∷◌, ◌++◌, length, map, Option, Some, refl, ap, sym, ◌∙◌, subst, inl, inr, arith}
+use Rattle.std.proofs.Common.{◌≡◌, ℕ, ◌+◌, ◌<◌, ◌≤◌, ◌==◌, Bool, true, false, List, [], ◌∷◌, ◌++◌, length, map, Option, Some, refl, ap, sym, ◌∙◌, subst, inl, inr, arith}
 use Rattle.std.specs.List.{All, Contains}
-use Rattle.std.proofs.lemmas.Bool.{cases_Bool}
+use Rattle.std.proofs.lemmas.Bool.{cases_Bool, false≢true}
 use Rattle.std.proofs.lemmas.List.{length-map}
-use Rattle.std.proofs.lemmas.List.Elements.{Contains-append_left}
+use Rattle.std.proofs.lemmas.List.Elements.{Contains-append_left, Contains-append_right}
 use Rattle.lex_core.specs.declared.token.Tok.{Tok}
 use Rattle.sig_table.specs.declared.code.Code.TheVariants.{WrongCommandForm}
 use Rattle.sexp_core.specs.Sexp.{Sexp}
 use Rattle.judgement.specs.Judging.{◌>>=◌, done, find, well_sorted}
 use Rattle.sort_store.specs.CoreRanks.{bool}
+use Rattle.sort_store.specs.declared.head.DeclNo.{DeclNo}
 use Rattle.sort_store.specs.Tree.{Sort}
 use Rattle.sort_store.specs.Instance.{inst}
 use Rattle.scope_stack.specs.Levels.{live}
 use Rattle.scope_stack.specs.declared.entry.FunKind.TheVariants as kind
 use Rattle.term_grammar.specs.declared.words.TheConstants.{GLOBAL_DECLARATIONS}
-use Rattle.term_grammar.specs.Syntax.{Attribute, Term, keyword_attribute, valued_attribute}
-use Rattle.cmd_grammar.specs.Commands.{Command, Literal, assert, check_sat, check_sat_assuming, declare_const, declare_fun, declare_sort, define_sort, echo, exit, get_assertions, get_assignment, get_info, get_model, get_option, get_proof, get_unsat_assumptions, get_unsat_core, pop, push, reset, reset_assertions, set_info, set_logic, set_option}
+use Rattle.term_grammar.specs.Syntax as syntax
+use Rattle.term_grammar.specs.Syntax.{Attribute, SortedSymbol, Term, Terms, keyword_attribute, no_terms, valued_attribute, with_term}
+use Rattle.cmd_grammar.specs.Commands.{Command, FunDec, Literal, assert, check_sat, check_sat_assuming, declare_const, declare_fun, declare_sort, define_fun, define_fun_rec, define_funs_rec, define_sort, echo, exit, get_assertions, get_assignment, get_info, get_model, get_option, get_proof, get_unsat_assumptions, get_unsat_core, get_value, pop, push, reset, reset_assertions, set_info, set_logic, set_option}
 use Rattle.cmd_grammar.specs.DeclarationViews.{literal_term}
-use Rattle.term_store.specs.Command.{PlainCommand}
+use Rattle.term_store.specs.Command.{PlainCommand, PlainDef}
 use Rattle.term_store.specs.Command as typed
-use Rattle.term_store.specs.Declarations.{Declaration, declared_by, function_symbol, names_in, names_in_all, number_given}
-use Rattle.term_store.specs.Definitions.{no_definitions}
-use Rattle.term_store.specs.SoundScript.{IsSoundCommand, IsSoundDeclaration, IsSoundIn, KeepsDeclared, KeepsLevels}
-use Rattle.term_store.specs.SoundTerms.{IsSoundSort}
+use Rattle.term_store.specs.Declarations.{Declaration, declared_by, definition, function_symbol, names_in, names_in_all, number_given}
+use Rattle.term_store.specs.SoundScript.{IsSoundCommand, IsSoundDeclaration, IsSoundDef, IsSoundIn, KeepsLevels}
+use Rattle.term_store.specs.SoundTerms.{AppliesBelow, AreDistinct, AreSoundVars, HasRankAt, IsSoundSort}
 use Rattle.term_store.specs.Term.{PlainTerm, plain_sort}
 use Rattle.typer.proofs.LiveDeclarations.{Each, all_of_each, each_closed, each_declared, each_global, each_of_all, each_opened}
 use Rattle.typer.proofs.LiveRankSteps.{inst_none, map_none}
+use Rattle.typer.proofs.AppliedNumbers.{AreFunctionsBelow, applies_below}
 use Rattle.typer.proofs.NoNames.{no_names}
+use Rattle.typer.specs.TermRules.{judge_terms}
 use Rattle.typer.proofs.SoundSorts.{sound_sort, sound_sorts}
 use Rattle.typer.proofs.SoundTerms.{sound_term}
 use Rattle.typer.specs.Declarations.{Declarations, FunDeclaration, SortDeclaration, defined_sort, depth, free_sort, with_fun, with_global, with_popped, with_pushed, with_sort, without_assertions}
-use Rattle.typer.specs.Soundness.{HasSoundFunctions, HasSoundSorts, IsSoundFunction, IsSoundSignature, IsSoundSortSymbol}
+use Rattle.typer.specs.Soundness.{HasSoundSorts, IsSoundFunction, IsSoundSignature, IsSoundSortSymbol}
 use Rattle.script_core.specs.Environment.{Environment, signature_in, start as start_env, theories_of}
-use Rattle.script_core.specs.Rules.{after_option, attribute_key, attribute_value, is_true, judge_bool, judge_literals, judge_mode, judge_parts, next_number, unchanging, value_of, with_defined_sort, with_free_sort, with_function}
-use Rattle.script_core.proofs.SoundNumbers.{AscendFrom, length-closed, length-declared, length-opened}
+use Rattle.script_core.specs.Rules.{Header, after_option, defined, is_true, judge_body, judge_bool, judge_header, judge_headers, judge_literals, judge_members, judge_mode, judge_parts, judge_variables, next_number, unchanging, value_of, with_defined_sort, with_free_sort, with_function, with_header, with_headers}
+use Rattle.typer.specs.TermRules.{attribute_key, attribute_value}
+use Rattle.script_core.proofs.ApartNames.{variables_apart}
+use Rattle.script_core.proofs.KeptNumbers.{IsNoDatatype}
+use Rattle.script_core.proofs.SoundNumbers.{length-closed, length-declared, length-opened}
+use Rattle.script_core.proofs.StepNumbers.{AreMembers, body_names, group_declares, members_are, terms_names}
 
--- a declaration is sound, and nothing is defined under its number
+-- a declaration is sound, and is no datatype
 abbrev pub IsSoundSymbol : List Declaration → Declaration → Type 0
-IsSoundSymbol script d = IsSoundDeclaration script d × KeepsDeclared no_definitions d
+IsSoundSymbol script d = IsSoundDeclaration script d × IsNoDatatype d
+
+-- the signature is sound, and each live function has a number below the next one
+pub record IsSoundEnv (script : List Declaration) (env : Environment) : Type 0 where
+  pub signature : IsSoundSignature script (signature_in env)
+  pub below : AreFunctionsBelow env.next env.declarations
 
 -- what an accepted command says of itself and of what it leads to
 pub record IsSoundStep (script : List Declaration) (env : Environment) (c : PlainCommand) (after : Environment) : Type 0 where
-  pub signature : IsSoundSignature script (signature_in after)
+  pub leads : IsSoundEnv script after
   pub levels : (cs : List PlainCommand) → KeepsLevels (depth after.declarations) cs → KeepsLevels (depth env.declarations) (c ∷ cs)
-  pub numbers : (ds : List Declaration) → AscendFrom after.next (map number_given ds) → AscendFrom env.next (map number_given (declared_by c ++ ds))
   pub declarations : Each (IsSoundSymbol script) (declared_by c)
   pub command : IsSoundCommand script c
 
@@ -70,117 +81,214 @@ step_of script env c d after new e sound declares =
 none_of : (P : Declaration → Type 0) (ds : List Declaration) → ds ≡ [] → Each P ds
 none_of P ds e = subst (λ (l : List Declaration). Each P l) (sym e) tt
 
-module _ (script : List Declaration) (env : Environment) (sound : IsSoundSignature script (signature_in env)) where
-  -- declarations of which each live one is sound
-  sound_with : (d : Declarations) → HasSoundSorts script d → HasSoundFunctions script d → IsSoundSignature script (record { texts = env.names; declarations = d; theories = env.theories })
-  sound_with d sorts funs = record { table = sound.table; sorts = sorts; funs = funs }
+-- what a definition says before its body is sound
+pub record IsSoundHeader (script : List Declaration) (h : Header) : Type 0 where
+  pub apart : AreDistinct (map (λ v. v.0) h.params)
+  pub params : AreSoundVars script h.params
+  pub result : IsSoundSort script 0 h.result
 
+-- the parameters of a function are sound, one by one
+vars_each : (script : List Declaration) (vs : List (ℕ × Sort)) → AreSoundVars script vs → Each (λ (v : ℕ × Sort). IsSoundSort script 0 v.1) vs
+vars_each script [] h = tt
+vars_each script (v ∷ vs) h = (h.0, vars_each script vs h.1)
+
+-- the parameters of a function have sound sorts
+variables_sound : (script : List Declaration) (env : Environment) → HasSoundSorts script env.declarations → (seen : List ℕ) (ps : List SortedSymbol) (vs : List (ℕ × Sort)) (before after : List ℕ) → judge_variables env seen ps before (well_sorted vs after)
+    → AreSoundVars script vs
+variables_sound script env sorts seen [] vs before after (e, f) = subst (AreSoundVars script) (sym e) tt
+variables_sound script env sorts seen (p ∷ ps) vs before after (v, between, (w, start, fresh, (s, middle, j, (e, f))), (rest, later, k, (g, i))) =
+    subst (AreSoundVars script) (sym g) (
+      subst (λ (x : ℕ × Sort). IsSoundSort script 0 x.1) (sym e) (sound_sort script env.names env.declarations env.theories [] sorts p.sort s start middle j),
+      variables_sound script env sorts (seen ++ v.0 ∷ []) ps rest between later k,
+    )
+
+header_sound : (script : List Declaration) (env : Environment) → HasSoundSorts script env.declarations → (n : Tok) (ps : List SortedSymbol) (s : syntax.Sort) (h : Header) (before after : List ℕ) → judge_header env n ps s before (well_sorted h after)
+    → IsSoundHeader script h × (h.no ≡ next_number env)
+header_sound script env sorts n ps s h before after (w, start, fresh, (vs, between, j, (r, later, i, (e, f)))) =
+    let made : Header = record { no = next_number env; name = n.name; params = vs; result = r } in
+    let ok : IsSoundHeader script made × (made.no ≡ next_number env) = (
+      record {
+        apart = variables_apart env ps vs start between j;
+        params = variables_sound script env sorts [] ps vs start between j;
+        result = sound_sort script env.names env.declarations env.theories [] sorts s r between later i;
+      },
+      refl,
+    ) in
+    subst (λ (x : Header). IsSoundHeader script x × (x.no ≡ next_number env)) (sym e) ok
+
+-- the headers of a group, with the next numbers
+abbrev AreSoundHeaders : List Declaration → ℕ → List Header → Type 0
+AreSoundHeaders script n [] = Unit {0}
+AreSoundHeaders script n (h ∷ hs) = IsSoundHeader script h × (h.no ≡ record { 0 = n }) × AreSoundHeaders script (n + 1) hs
+
+headers_sound : (script : List Declaration) (env : Environment) → HasSoundSorts script env.declarations → (fs : List FunDec) (hs : List Header) (before after : List ℕ) → judge_headers env fs before (well_sorted hs after)
+    → AreSoundHeaders script env.next hs
+headers_sound script env sorts [] hs before after (e, f) = subst (AreSoundHeaders script env.next) (sym e) tt
+headers_sound script env sorts (f ∷ fs) hs before after (h, between, j, (rest, later, k, (e, i))) =
+    let head = header_sound script env sorts f.name f.params f.result h before between j in
+    subst (AreSoundHeaders script env.next) (sym e) (head.0, head.1, headers_sound script (with_header env h) sorts fs rest between later k)
+
+-- the body of a definition, under the functions that are live
+definition_in : (script : List Declaration) (env : Environment) → IsSoundEnv script env → (h : Header) (t : Term) (u : PlainTerm) (recursive : Bool) (before after : List ℕ) → IsSoundHeader script h → (recursive ≡ false → h.no.0 ≡ env.next)
+    → judge_body env h t before (well_sorted u after) → IsSoundDef script (defined h recursive u)
+definition_in script env sound h t u recursive before after head number (v, between, j, (w, later, k, (e, f))) =
+    subst (λ (x : PlainTerm). IsSoundDef script (defined h recursive x)) (sym e) (record {
+      params_distinct = head.apart;
+      param_sorts = all_of_each (λ (x : ℕ × Sort). IsSoundSort script 0 x.1) h.params (vars_each script h.params head.params);
+      result_sort = head.result;
+      body = sound_term script (signature_in env) sound.signature t h.params head.params v before between j;
+      body_sort = k.0;
+      lower = λ plain. subst (λ (n : ℕ). AppliesBelow n v) (sym (number plain)) (applies_below env.next (signature_in env) sound.below t h.params v before between j);
+    })
+
+members_sound : (script : List Declaration) (env : Environment) → IsSoundEnv script env → (at n : ℕ) (hs : List Header) (ts : Terms) (ds : List PlainDef) (before after : List ℕ) → AreSoundHeaders script n hs
+    → judge_members env at hs ts before (well_sorted ds after) → Each (IsSoundDef script) ds
+members_sound script env sound at n [] ts ds before after heads (e, f) = subst (Each (IsSoundDef script)) (sym e) tt
+members_sound script env sound at n (h ∷ hs) no_terms ds before after heads j = absurd j
+members_sound script env sound at n (h ∷ hs) (with_term t ts) ds before after heads (d, between, (u, middle, j, (e, f)), (rest, later, k, (g, i))) =
+    subst (Each (IsSoundDef script)) (sym g) (
+      subst (IsSoundDef script) (sym e) (definition_in script env sound h t u true before middle heads.0 (λ plain. absurd (false≢true (sym plain))) j),
+      members_sound script env sound at (n + 1) hs ts rest between later heads.2 k,
+    )
+
+symbols_of : (script : List Declaration) (ds : List PlainDef) → Each (IsSoundDef script) ds → Each (IsSoundSymbol script) (map definition ds)
+symbols_of script [] h = tt
+symbols_of script (d ∷ ds) h = ((h.0, tt), symbols_of script ds h.1)
+
+-- the script declares each of them
+abbrev DeclaresEach : List Declaration → List PlainDef → Type 0
+DeclaresEach script ds = Each (λ (d : PlainDef). Contains script (definition d)) ds
+
+each_declared_in : (script : List Declaration) (ds : List PlainDef) (others : List Declaration) → ((d : Declaration) → Contains (map definition ds ++ others) d → Contains script d) → DeclaresEach script ds
+each_declared_in script [] others f = tt
+each_declared_in script (d ∷ ds) others f =
+    (f (definition d) (first_of (definition d) (map definition ds ++ others)), each_declared_in script ds others (λ x h. f x (Contains-append_right (definition d ∷ []) (map definition ds ++ others) x h)))
+
+-- levels stay as many
+group_depth : (env : Environment) (hs : List Header) → depth (with_headers env hs).declarations ≡ depth env.declarations
+group_depth env [] = refl
+group_depth env (h ∷ hs) = group_depth (with_header env h) hs ∙ length-declared env.declarations.global _ env.declarations.funs
+
+module _ (script : List Declaration) (env : Environment) (sound : IsSoundEnv script env) where
   abbrev OfSort : ℕ × SortDeclaration → Type 0
   OfSort d = IsSoundSortSymbol script d.1
 
-  abbrev OfFun : ℕ × FunDeclaration → Type 0
-  OfFun d = IsSoundFunction script d.1
+  abbrev OfFun : ℕ → ℕ × FunDeclaration → Type 0
+  OfFun next d = IsSoundFunction script d.1 × (d.1.number.0 < next)
+
+  -- declarations of which each live one is sound
+  sound_with : (next : ℕ) (d : Declarations) → HasSoundSorts script d → All (OfFun next) (live d.funs) → IsSoundEnv script (record env { declarations = d; next = next })
+  sound_with next d sorts funs = record {
+    signature = record { table = sound.signature.table; sorts = sorts; funs = λ k f l. (funs k f l).0 };
+    below = λ k f l. (funs k f l).1;
+  }
 
   sorts_each : Each OfSort (live env.declarations.sorts)
-  sorts_each = each_of_all OfSort (live env.declarations.sorts) sound.sorts
+  sorts_each = each_of_all OfSort (live env.declarations.sorts) sound.signature.sorts
 
-  funs_each : Each OfFun (live env.declarations.funs)
-  funs_each = each_of_all OfFun (live env.declarations.funs) sound.funs
+  funs_each : (next : ℕ) → env.next ≤ next → Each (OfFun next) (live env.declarations.funs)
+  funs_each next l = each_of_all (OfFun next) (live env.declarations.funs) (λ k f few. (sound.signature.funs k f few, omega (arith, sound.below k f few, l)))
+
+  funs_now : Each (OfFun env.next) (live env.declarations.funs)
+  funs_now = funs_each env.next (omega arith)
 
   -- a command that declares nothing and leaves the levels as they are
-  quiet : (c : PlainCommand) (after : Environment) → IsSoundSignature script (signature_in after) → ((cs : List PlainCommand) → KeepsLevels (depth after.declarations) cs → KeepsLevels (depth env.declarations) (c ∷ cs))
-      → after.next ≡ env.next → declared_by c ≡ [] → IsSoundCommand script c → IsSoundStep script env c after
-  quiet c after signature levels next none command = record {
-    signature = signature;
+  quiet : (c : PlainCommand) (after : Environment) → IsSoundEnv script after → ((cs : List PlainCommand) → KeepsLevels (depth after.declarations) cs → KeepsLevels (depth env.declarations) (c ∷ cs))
+      → declared_by c ≡ [] → IsSoundCommand script c → IsSoundStep script env c after
+  quiet c after leads levels none command = record {
+    leads = leads;
     levels = levels;
-    numbers = λ ds h. subst (λ (l : List Declaration). AscendFrom env.next (map number_given (l ++ ds))) (sym none) (subst (λ (n : ℕ). AscendFrom n (map number_given ds)) next h);
     declarations = none_of (IsSoundSymbol script) (declared_by c) none;
     command = command;
   }
-
-  -- the next number, and those after it
-  next_given : (n : ℕ) (ds : List Declaration) → n ≡ env.next → AscendFrom (env.next + 1) (map number_given ds) → AscendFrom env.next (n ∷ map number_given ds)
-  next_given n ds e h = (omega (arith, e), subst (λ (m : ℕ). AscendFrom (m + 1) (map number_given ds)) (sym e) h)
 
   -- a function symbol without parameters has the rank of its declaration
   function_ranks : (args : List Sort) (result : Sort) (values : List Sort) → length values ≡ 0 → (map (inst values) args ≡ args) × (inst values result ≡ result)
   function_ranks args result [] e = (map_none args, inst_none result)
   function_ranks args result (v ∷ values) e = absurd (omega (arith, e))
 
-  function_declared : (name : ℕ) (args : List Sort) (result : Sort) → All (IsSoundSort script 0) args → IsSoundSort script 0 result → Contains script (function_symbol (next_number env) name args result)
-      → IsSoundSignature script (signature_in (with_function env name args result))
-  function_declared name args result args_sound result_sound declares =
+  -- the declaration is one of a function without parameters that is live under this name
+  function_declared : (name : ℕ) (args : List Sort) (result : Sort) (its : Declaration) → All (IsSoundSort script 0) args → IsSoundSort script 0 result → Contains script its → number_given its ≡ env.next
+      → ((values : List Sort) → length values ≡ 0 → HasRankAt its values (map (inst values) args) (inst values result)) → IsSoundEnv script (with_function env name args result)
+  function_declared name args result its args_sound result_sound declares number ranks =
       let f : FunDeclaration = record { number = next_number env; kind = kind.Free; params = 0; args = args; result = result } in
       let entry : IsSoundFunction script f = record {
         args = args_sound;
         result = result_sound;
-        its = function_symbol (next_number env) name args result;
+        its = its;
         is_declared = declares;
-        number_is = refl;
-        ranks = λ values e. function_ranks args result values e;
+        number_is = number;
+        ranks = ranks;
       } in
-      sound_with (with_fun name f env.declarations) sound.sorts (all_of_each OfFun _ (each_declared OfFun env.declarations.global (name, f) env.declarations.funs entry funs_each))
+      sound_with (env.next + 1) (with_fun name f env.declarations) sound.signature.sorts
+      (all_of_each (OfFun (env.next + 1)) _ (each_declared (OfFun (env.next + 1)) env.declarations.global (name, f) env.declarations.funs (entry, omega arith) (funs_each (env.next + 1) (omega arith))))
 
-  sort_declared : (name : ℕ) (d : SortDeclaration) (declarations : Declarations) → declarations ≡ with_sort name d env.declarations → IsSoundSortSymbol script d → IsSoundSignature script (record { texts = env.names; declarations = declarations; theories = env.theories })
-  sort_declared name d declarations e h =
-      subst (λ (x : Declarations). IsSoundSignature script (record { texts = env.names; declarations = x; theories = env.theories })) (sym e)
-      (sound_with (with_sort name d env.declarations) (all_of_each OfSort _ (each_declared OfSort env.declarations.global (name, d) env.declarations.sorts h sorts_each)) sound.funs)
+  sort_declared : (next name : ℕ) (d : SortDeclaration) → env.next ≤ next → IsSoundSortSymbol script d → IsSoundEnv script (record env { declarations = with_sort name d env.declarations; next = next })
+  sort_declared next name d l h =
+      sound_with next (with_sort name d env.declarations) (all_of_each OfSort _ (each_declared OfSort env.declarations.global (name, d) env.declarations.sorts h sorts_each)) (all_of_each (OfFun next) _ (funs_each next l))
 
   -- a function symbol takes the next number
-  function_step : (c : PlainCommand) (name : ℕ) (args : List Sort) (result : Sort) → declared_by c ≡ function_symbol (next_number env) name args result ∷ [] → All (IsSoundSort script 0) args → IsSoundSort script 0 result
+  function_step : (c : PlainCommand) (name : ℕ) (args : List Sort) (result : Sort) (its : Declaration) → declared_by c ≡ its ∷ [] → All (IsSoundSort script 0) args → IsSoundSort script 0 result
+      → number_given its ≡ env.next → ((values : List Sort) → length values ≡ 0 → HasRankAt its values (map (inst values) args) (inst values result)) → IsSoundSymbol script its
       → ((cs : List PlainCommand) (n : ℕ) → KeepsLevels n cs → KeepsLevels n (c ∷ cs)) → IsSoundCommand script c → Declares script c → IsSoundStep script env c (with_function env name args result)
-  function_step c name args result is args_sound result_sound same command declares =
-      let d = function_symbol (next_number env) name args result in record {
-        signature = function_declared name args result args_sound result_sound (declares d (subst (λ (l : List Declaration). Contains l d) (sym is) (first_of d [])));
-        levels = λ cs h. same cs (depth env.declarations) (subst (λ (n : ℕ). KeepsLevels n cs) (length-declared env.declarations.global _ env.declarations.funs) h);
-        numbers = λ ds h. subst (λ (l : List Declaration). AscendFrom env.next (map number_given (l ++ ds))) (sym is) (next_given env.next ds refl h);
-        declarations = subst (λ (l : List Declaration). Each (IsSoundSymbol script) l) (sym is) (((args_sound, result_sound), record { no_def = refl; no_datatype = refl }), tt);
-        command = command;
-      }
+  function_step c name args result its is args_sound result_sound number ranks symbol same command declares = record {
+    leads = function_declared name args result its args_sound result_sound (declares its (subst (λ (l : List Declaration). Contains l its) (sym is) (first_of its []))) number ranks;
+    levels = λ cs h. same cs (depth env.declarations) (subst (λ (n : ℕ). KeepsLevels n cs) (length-declared env.declarations.global _ env.declarations.funs) h);
+    declarations = subst (λ (l : List Declaration). Each (IsSoundSymbol script) l) (sym is) (symbol, tt);
+    command = command;
+  }
+
+  -- a declared function
+  symbol_step : (c : PlainCommand) (name : ℕ) (args : List Sort) (result : Sort) → declared_by c ≡ function_symbol (next_number env) name args result ∷ [] → All (IsSoundSort script 0) args → IsSoundSort script 0 result
+      → ((cs : List PlainCommand) (n : ℕ) → KeepsLevels n cs → KeepsLevels n (c ∷ cs)) → IsSoundCommand script c → Declares script c → IsSoundStep script env c (with_function env name args result)
+  symbol_step c name args result is args_sound result_sound same command declares =
+      function_step c name args result (function_symbol (next_number env) name args result) is args_sound result_sound refl (λ values e. function_ranks args result values e) ((args_sound, result_sound), tt) same command declares
 
   -- a sort symbol takes the next number
   free_sort_step : (name arity : ℕ) → IsSoundStep script env (typed.declare_sort (next_number env) name arity) (with_free_sort env name arity)
   free_sort_step name arity = record {
-    signature = sort_declared name (free_sort (next_number env) arity) _ refl tt;
+    leads = sort_declared (env.next + 1) name (free_sort (next_number env) arity) (omega arith) tt;
     levels = λ cs h. h;
-    numbers = λ ds h. next_given env.next ds refl h;
-    declarations = ((tt, record { no_def = refl; no_datatype = refl }), tt);
+    declarations = ((tt, tt), tt);
     command = tt;
   }
 
   -- a defined sort takes none
   defined_sort_step : (name count : ℕ) (ps : List ℕ) (body : Sort) → length ps ≡ count → IsSoundSort script (length ps) body → IsSoundStep script env (typed.define_sort name ps body) (with_defined_sort env name count body)
   defined_sort_step name count ps body e h =
-      quiet (typed.define_sort name ps body) (with_defined_sort env name count body) (sort_declared name (defined_sort count body) _ refl (subst (λ (n : ℕ). IsSoundSort script n body) e h)) (λ cs k. k) refl refl h
+      quiet (typed.define_sort name ps body) (with_defined_sort env name count body) (sort_declared env.next name (defined_sort count body) (omega arith) (subst (λ (n : ℕ). IsSoundSort script n body) e h)) (λ cs k. k) refl h
 
   -- levels are opened and closed
   push_step : (n : ℕ) → depth env.declarations + n ≤ 65535 → IsSoundStep script env (typed.push n) (record env { declarations = with_pushed n env.declarations })
   push_step n few =
       quiet (typed.push n) (record env { declarations = with_pushed n env.declarations })
-      (sound_with (with_pushed n env.declarations) (all_of_each OfSort _ (each_opened OfSort n env.declarations.sorts sorts_each)) (all_of_each OfFun _ (each_opened OfFun n env.declarations.funs funs_each)))
-      (λ cs h. (few, subst (λ (m : ℕ). KeepsLevels m cs) (length-opened n env.declarations.funs) h)) refl refl tt
+      (sound_with env.next (with_pushed n env.declarations) (all_of_each OfSort _ (each_opened OfSort n env.declarations.sorts sorts_each)) (all_of_each (OfFun env.next) _ (each_opened (OfFun env.next) n env.declarations.funs funs_now)))
+      (λ cs h. (few, subst (λ (m : ℕ). KeepsLevels m cs) (length-opened n env.declarations.funs) h)) refl tt
 
   pop_step : (n : ℕ) → n ≤ depth env.declarations → IsSoundStep script env (typed.pop n) (record env { declarations = with_popped n env.declarations })
   pop_step n enough =
       quiet (typed.pop n) (record env { declarations = with_popped n env.declarations })
-      (sound_with (with_popped n env.declarations) (all_of_each OfSort _ (each_closed OfSort n env.declarations.sorts sorts_each)) (all_of_each OfFun _ (each_closed OfFun n env.declarations.funs funs_each)))
-      (λ cs h. (enough, subst (λ (m : ℕ). KeepsLevels m cs) (length-closed n env.declarations.funs) h)) refl refl tt
+      (sound_with env.next (with_popped n env.declarations) (all_of_each OfSort _ (each_closed OfSort n env.declarations.sorts sorts_each)) (all_of_each (OfFun env.next) _ (each_closed (OfFun env.next) n env.declarations.funs funs_now)))
+      (λ cs h. (enough, subst (λ (m : ℕ). KeepsLevels m cs) (length-closed n env.declarations.funs) h)) refl tt
 
   reset_step : IsSoundStep script env typed.reset (record start_env { names = env.names; next = env.next })
   reset_step =
-      quiet typed.reset (record start_env { names = env.names; next = env.next }) (record { table = sound.table; sorts = all_of_each OfSort [] tt; funs = all_of_each OfFun [] tt }) (λ cs h. h) refl refl tt
+      quiet typed.reset (record start_env { names = env.names; next = env.next }) (record {
+        signature = record { table = sound.signature.table; sorts = all_of_each OfSort [] tt; funs = all_of_each (λ (d : ℕ × FunDeclaration). IsSoundFunction script d.1) [] tt };
+        below = all_of_each (λ (d : ℕ × FunDeclaration). d.1.number.0 < env.next) [] tt;
+      }) (λ cs h. h) refl tt
 
   forgotten_step : IsSoundStep script env typed.reset_assertions (record env { declarations = without_assertions env.declarations })
   forgotten_step =
       quiet typed.reset_assertions (record env { declarations = without_assertions env.declarations })
-      (sound_with (without_assertions env.declarations) (all_of_each OfSort _ (each_global OfSort env.declarations.sorts sorts_each)) (all_of_each OfFun _ (each_global OfFun env.declarations.funs funs_each)))
-      (λ cs h. h) refl refl tt
+      (sound_with env.next (without_assertions env.declarations) (all_of_each OfSort _ (each_global OfSort env.declarations.sorts sorts_each)) (all_of_each (OfFun env.next) _ (each_global (OfFun env.next) env.declarations.funs funs_now)))
+      (λ cs h. h) refl tt
 
   -- a flag declares nothing
-  option_sound : (a : Attribute) → IsSoundSignature script (signature_in (after_option env a))
+  option_sound : (a : Attribute) → IsSoundEnv script (after_option env a)
   option_sound (keyword_attribute k) = sound
   option_sound (valued_attribute k v) = elim (cases_Bool (k.name == GLOBAL_DECLARATIONS)) [
-    | inl same ↦ rw same (sound_with (with_global (is_true v) env.declarations) sound.sorts sound.funs)
+    | inl same ↦ rw same (sound_with env.next (with_global (is_true v) env.declarations) sound.signature.sorts (all_of_each (OfFun env.next) _ funs_now))
     | inr other ↦ rw other sound
   ]
 
@@ -191,26 +299,19 @@ module _ (script : List Declaration) (env : Environment) (sound : IsSoundSignatu
     | inr other ↦ rw other refl
   ]
 
-  option_next : (a : Attribute) → (after_option env a).next ≡ env.next
-  option_next (keyword_attribute k) = refl
-  option_next (valued_attribute k v) = elim (cases_Bool (k.name == GLOBAL_DECLARATIONS)) [
-    | inl same ↦ rw same refl
-    | inr other ↦ rw other refl
-  ]
-
   option_step : (a : Attribute) (key : ℕ) (value : Option (Sexp Tok)) → IsSoundStep script env (typed.set_option key value) (after_option env a)
   option_step a key value =
-      quiet (typed.set_option key value) (after_option env a) (option_sound a) (λ cs h. subst (λ (n : ℕ). KeepsLevels n cs) (option_depth a) h) (option_next a) refl tt
+      quiet (typed.set_option key value) (after_option env a) (option_sound a) (λ cs h. subst (λ (n : ℕ). KeepsLevels n cs) (option_depth a) h) refl tt
 
   -- a command that changes nothing
   same_step : (c : PlainCommand) → ((cs : List PlainCommand) (n : ℕ) → KeepsLevels n cs → KeepsLevels n (c ∷ cs)) → declared_by c ≡ [] → IsSoundCommand script c → IsSoundStep script env c env
-  same_step c same none command = quiet c env sound (λ cs h. same cs (depth env.declarations) h) refl none command
+  same_step c same none command = quiet c env sound (λ cs h. same cs (depth env.declarations) h) none command
 
   -- terms of sort Bool
   bool_sound : (t : Term) (u : PlainTerm) (before after : List ℕ) → judge_bool env t before (well_sorted u after) → IsSoundIn script u × (plain_sort u ≡ bool) × (names_in u ≡ [])
   bool_sound t u before after (v, between, h, (w, later, k, (e, f))) =
       let ok : IsSoundIn script v × (plain_sort v ≡ bool) × (names_in v ≡ []) =
-      (sound_term script (signature_in env) [] sound tt t v before between h, k.0, no_names (signature_in env) [] t v before between h) in
+      (sound_term script (signature_in env) sound.signature t [] tt v before between h, k.0, no_names (signature_in env) t [] v before between h) in
       subst (λ (x : PlainTerm). IsSoundIn script x × (plain_sort x ≡ bool) × (names_in x ≡ [])) (sym e) ok
 
   literals_sound : (ls : List Literal) (us : List PlainTerm) (before after : List ℕ) → judge_literals env ls before (well_sorted us after) → Each (IsSoundIn script) us × (names_in_all us ≡ [])
@@ -220,6 +321,32 @@ module _ (script : List Declaration) (env : Environment) (sound : IsSoundSignatu
       let rest = literals_sound ls vs between later k in
       subst (λ (xs : List PlainTerm). Each (IsSoundIn script) xs × (names_in_all xs ≡ [])) (sym e)
       ((first.0, rest.0), ap (λ (ds : List Declaration). ds ++ names_in_all vs) first.2 ∙ rest.1)
+
+  terms_sound : (ts : Terms) (us : List PlainTerm) (before after : List ℕ) → judge_terms (signature_in env) [] ts before (well_sorted us after) → Each (IsSoundIn script) us
+  terms_sound no_terms us before after (e, f) = subst (Each (IsSoundIn script)) (sym e) tt
+  terms_sound (with_term t ts) us before after (u, between, h, (vs, later, k, (e, f))) =
+      subst (Each (IsSoundIn script)) (sym e) (sound_term script (signature_in env) sound.signature t [] tt u before between h, terms_sound ts vs between later k)
+
+  var_sorts : (vs : List (ℕ × Sort)) → AreSoundVars script vs → Each (IsSoundSort script 0) (map (λ v. v.1) vs)
+  var_sorts [] h = tt
+  var_sorts (v ∷ vs) h = (h.0, var_sorts vs h.1)
+
+  -- a definition that is live under its number
+  defined_ranks : (h : Header) (recursive : Bool) (u : PlainTerm) (values : List Sort) → length values ≡ 0
+      → HasRankAt (definition (defined h recursive u)) values (map (inst values) (map (λ v. v.1) h.params)) (inst values h.result)
+  defined_ranks h recursive u values e = function_ranks (map (λ v. v.1) h.params) h.result values e
+
+  header_live : (h : Header) (u : PlainTerm) (recursive : Bool) → IsSoundHeader script h → h.no ≡ next_number env → Contains script (definition (defined h recursive u)) → IsSoundEnv script (with_header env h)
+  header_live h u recursive head number declares =
+      function_declared h.name (map (λ v. v.1) h.params) h.result (definition (defined h recursive u)) (all_of_each (IsSoundSort script 0) _ (var_sorts h.params head.params)) head.result declares (ap (λ (n : DeclNo). n.0) number)
+      (defined_ranks h recursive u)
+
+  -- the command defines this function alone
+  definition_step : (c : PlainCommand) (h : Header) (recursive : Bool) (u : PlainTerm) → declared_by c ≡ definition (defined h recursive u) ∷ names_in u → names_in u ≡ [] → IsSoundHeader script h → h.no ≡ next_number env
+      → ((cs : List PlainCommand) (n : ℕ) → KeepsLevels n cs → KeepsLevels n (c ∷ cs)) → IsSoundCommand script c → IsSoundDef script (defined h recursive u) → Declares script c → IsSoundStep script env c (with_header env h)
+  definition_step c h recursive u is bare head number same command def declares =
+      function_step c h.name (map (λ v. v.1) h.params) h.result (definition (defined h recursive u)) (is ∙ ap (λ (ds : List Declaration). definition (defined h recursive u) ∷ ds) bare)
+      (all_of_each (IsSoundSort script 0) _ (var_sorts h.params head.params)) head.result (ap (λ (n : DeclNo). n.0) number) (defined_ranks h recursive u) (def, tt) same command declares
 
   is_same : (c d : PlainCommand) → Some c ≡ Some d → IsSoundStep script env c env → IsSoundStep script env d env
   is_same c d e h = let same : c ≡ d = cc in subst (λ (x : PlainCommand). IsSoundStep script env x env) same h
@@ -244,39 +371,75 @@ module _ (script : List Declaration) (env : Environment) (sound : IsSoundSignatu
       → ◌>>=◌ {B = PlainCommand × Environment} (find (λ d. unchanging raw ≡ Some d) WrongCommandForm at) (λ d. done (d, env)) before (well_sorted (c, new) after) → Declares script c → IsSoundStep script env c new
   found_step raw at c new before after (d, between, found, (e, f)) declares = step_of script env c d new env e (λ known. unchanging_step raw d found.0) declares
 
+-- the functions of a group are live
+group_live : (script : List Declaration) (hs : List Header) (ds : List PlainDef) (env : Environment) → IsSoundEnv script env → AreSoundHeaders script env.next hs → AreMembers hs ds → DeclaresEach script ds → IsSoundEnv script (with_headers env hs)
+group_live script [] ds env sound heads members declares = sound
+group_live script (h ∷ hs) [] env sound heads members declares = absurd members
+group_live script (h ∷ hs) (d ∷ ds) env sound heads members declares =
+    group_live script hs ds (with_header env h) (header_live script env sound h d.body true heads.0 heads.1 (subst (λ (x : PlainDef). Contains script (definition x)) members.0 declares.0)) heads.2 members.1 declares.1
+
+module _ (script : List Declaration) (env : Environment) (sound : IsSoundEnv script env) where
+  group_step : (at : ℕ) (fs : List FunDec) (hs : List Header) (ts : Terms) (ds : List PlainDef) (before between after : List ℕ) → judge_headers env fs before (well_sorted hs between)
+      → judge_members (with_headers env hs) at hs ts between (well_sorted ds after) → Declares script (typed.define_funs_rec ds) → IsSoundStep script env (typed.define_funs_rec ds) (with_headers env hs)
+  group_step at fs hs ts ds before between after headed j declares =
+      let heads = headers_sound script env sound.signature.sorts fs hs before between headed in
+      let live = group_live script hs ds env sound heads (members_are (with_headers env hs) at hs ts ds between after j) (each_declared_in script ds (names_in_all (map (λ (d : PlainDef). d.body) ds)) declares) in record {
+        leads = live;
+        levels = λ cs h. subst (λ (n : ℕ). KeepsLevels n cs) (group_depth env hs) h;
+        declarations = subst (Each (IsSoundSymbol script)) (sym (group_declares (with_headers env hs) at hs ts ds between after j)) (symbols_of script ds (members_sound script (with_headers env hs) live at env.next hs ts ds between after heads j));
+        command = tt;
+      }
+
   -- the parts of a command whose mode is right
   pub parts_step : (at : ℕ) (raw : Command) (c : PlainCommand) (new : Environment) (first second before after : List ℕ) → judge_mode env at raw first (well_sorted tt second)
       → judge_parts env at raw before (well_sorted (c, new) after) → Declares script c → IsSoundStep script env c new
   parts_step at (assert t) c new first second before after mode (u, between, h, (e, f)) declares =
-      let b = bool_sound t u before between h in step_of script env c (typed.assert u) new env e (λ known. quiet (typed.assert u) env sound (λ cs k. k) refl b.2 (b.0, b.1)) declares
+      let b = bool_sound script env sound t u before between h in step_of script env c (typed.assert u) new env e (λ known. quiet script env sound (typed.assert u) env sound (λ cs k. k) b.2 (b.0, b.1)) declares
   parts_step at (check_sat_assuming ls) c new first second before after mode (us, between, h, (e, f)) declares =
-      let l = literals_sound ls us before between h in
-      step_of script env c (typed.check_sat_assuming us) new env e (λ known. quiet (typed.check_sat_assuming us) env sound (λ cs k. k) refl l.1 (all_of_each (IsSoundIn script) us l.0)) declares
+      let l = literals_sound script env sound ls us before between h in
+      step_of script env c (typed.check_sat_assuming us) new env e (λ known. quiet script env sound (typed.check_sat_assuming us) env sound (λ cs k. k) l.1 (all_of_each (IsSoundIn script) us l.0)) declares
   parts_step at (declare_const n s) c new first second before after mode (w, start, k, (result, later, h, (e, f))) declares =
-      let r = sound_sort script env.names env.declarations env.theories [] sound.sorts s result start later h in
+      let r = sound_sort script env.names env.declarations env.theories [] sound.signature.sorts s result start later h in
       step_of script env c (typed.declare_const (next_number env) n.name result) new (with_function env n.name [] result) e
-      (λ known. function_step (typed.declare_const (next_number env) n.name result) n.name [] result refl (all_of_each (IsSoundSort script 0) [] tt) r (λ cs m l. l) tt known) declares
+      (λ known. symbol_step script env sound (typed.declare_const (next_number env) n.name result) n.name [] result refl (all_of_each (IsSoundSort script 0) [] tt) r (λ cs m l. l) tt known) declares
   parts_step at (declare_fun n ss s) c new first second before after mode (w, start, k, (args, between, given, (result, later, h, (e, f)))) declares =
-      let a = sound_sorts script env.names env.declarations env.theories [] sound.sorts ss args start between given in
-      let r = sound_sort script env.names env.declarations env.theories [] sound.sorts s result between later h in
+      let a = sound_sorts script env.names env.declarations env.theories [] sound.signature.sorts ss args start between given in
+      let r = sound_sort script env.names env.declarations env.theories [] sound.signature.sorts s result between later h in
       step_of script env c (typed.declare_fun (next_number env) n.name args result) new (with_function env n.name args result) e
-      (λ known. function_step (typed.declare_fun (next_number env) n.name args result) n.name args result refl a r (λ cs m l. l) tt known) declares
+      (λ known. symbol_step script env sound (typed.declare_fun (next_number env) n.name args result) n.name args result refl a r (λ cs m l. l) tt known) declares
   parts_step at (declare_sort n a) c new first second before after mode (w, start, k, (v, later, h, (e, f))) declares =
-      step_of script env c (typed.declare_sort (next_number env) n.name (value_of env a)) new (with_free_sort env n.name (value_of env a)) e (λ known. free_sort_step n.name (value_of env a)) declares
+      step_of script env c (typed.declare_sort (next_number env) n.name (value_of env a)) new (with_free_sort env n.name (value_of env a)) e (λ known. free_sort_step script env sound n.name (value_of env a)) declares
   parts_step at (define_sort n ps s) c new first second before after mode (w, start, k, (v, between, apart, (body, later, h, (e, f)))) declares =
       let ids = map (λ (p : Tok). p.name) ps in
-      let b = sound_sort script env.names env.declarations env.theories ids sound.sorts s body between later h in
-      step_of script env c (typed.define_sort n.name ids body) new (with_defined_sort env n.name (length ps) body) e (λ known. defined_sort_step n.name (length ps) ids body (length-map ps _) b) declares
+      let b = sound_sort script env.names env.declarations env.theories ids sound.signature.sorts s body between later h in
+      step_of script env c (typed.define_sort n.name ids body) new (with_defined_sort env n.name (length ps) body) e (λ known. defined_sort_step script env sound n.name (length ps) ids body (length-map ps _) b) declares
+  parts_step at (define_fun raw) c new first second before after mode (h, start, j, (u, later, k, (e, f))) declares =
+      let head = header_sound script env sound.signature.sorts raw.name raw.params raw.result h before start j in
+      let d = typed.define_fun (defined h false u) in
+      step_of script env c d new (with_header env h) e
+      (λ known. definition_step script env sound d h false u refl (body_names env h raw.body u start later k) head.0 head.1 (λ cs m l. l) tt
+      (definition_in script env sound h raw.body u false start later head.0 (λ plain. ap (λ (n : DeclNo). n.0) head.1) k) known) declares
+  parts_step at (define_fun_rec raw) c new first second before after mode (h, start, j, (u, later, k, (e, f))) declares =
+      let head = header_sound script env sound.signature.sorts raw.name raw.params raw.result h before start j in
+      let d = typed.define_fun_rec (defined h true u) in
+      step_of script env c d new (with_header env h) e
+      (λ known. definition_step script env sound d h true u refl (body_names (with_header env h) h raw.body u start later k) head.0 head.1 (λ cs m l. l) tt
+      (definition_in script (with_header env h) (header_live script env sound h u true head.0 head.1 (known (definition (defined h true u)) (first_of (definition (defined h true u)) (names_in u))))
+      h raw.body u true start later head.0 (λ plain. absurd (false≢true (sym plain))) k) known) declares
+  parts_step at (define_funs_rec fs ts) c new first second before after mode (hs, start, headed, (ds, later, j, (e, f))) declares =
+      step_of script env c (typed.define_funs_rec ds) new (with_headers env hs) e (λ known. group_step at fs hs ts ds before start later headed j known) declares
+  parts_step at (get_value ts) c new first second before after mode (us, between, h, (e, f)) declares =
+      step_of script env c (typed.get_value us) new env e (λ known. quiet script env sound (typed.get_value us) env sound (λ cs k. k) (terms_names env ts us before between h) (all_of_each (IsSoundIn script) us (terms_sound script env sound ts us before between h))) declares
   parts_step at (set_logic n) c new first second before after mode (e, f) declares =
       step_of script env c (typed.set_logic n.name) new (record env { logic = true; theories = theories_of env n }) e
-      (λ known. quiet (typed.set_logic n.name) (record env { logic = true; theories = theories_of env n }) (record { table = sound.table; sorts = sound.sorts; funs = sound.funs }) (λ cs k. k) refl refl tt) declares
+      (λ known. quiet script env sound (typed.set_logic n.name) (record env { logic = true; theories = theories_of env n }) (record { signature = record { table = sound.signature.table; sorts = sound.signature.sorts; funs = sound.signature.funs }; below = sound.below }) (λ cs k. k) refl tt) declares
   parts_step at (set_option a) c new first second before after mode (e, f) declares =
-      step_of script env c (typed.set_option (attribute_key a).name (attribute_value a)) new (after_option env a) e (λ known. option_step a (attribute_key a).name (attribute_value a)) declares
+      step_of script env c (typed.set_option (attribute_key a).name (attribute_value a)) new (after_option env a) e (λ known. option_step script env sound a (attribute_key a).name (attribute_value a)) declares
   parts_step at (push n) c new first second before after mode (e, f) declares =
-      step_of script env c (typed.push (value_of env n)) new (record env { declarations = with_pushed (value_of env n) env.declarations }) e (λ known. push_step (value_of env n) mode.3.0) declares
+      step_of script env c (typed.push (value_of env n)) new (record env { declarations = with_pushed (value_of env n) env.declarations }) e (λ known. push_step script env sound (value_of env n) mode.3.0) declares
   parts_step at (pop n) c new first second before after mode (e, f) declares =
-      step_of script env c (typed.pop (value_of env n)) new (record env { declarations = with_popped (value_of env n) env.declarations }) e (λ known. pop_step (value_of env n) mode.3.0) declares
-  parts_step at reset c new first second before after mode (e, f) declares = step_of script env c typed.reset new (record start_env { names = env.names; next = env.next }) e (λ known. reset_step) declares
+      step_of script env c (typed.pop (value_of env n)) new (record env { declarations = with_popped (value_of env n) env.declarations }) e (λ known. pop_step script env sound (value_of env n) mode.3.0) declares
+  parts_step at reset c new first second before after mode (e, f) declares = step_of script env c typed.reset new (record start_env { names = env.names; next = env.next }) e (λ known. reset_step script env sound) declares
   parts_step at reset_assertions c new first second before after mode (e, f) declares =
-      step_of script env c typed.reset_assertions new (record env { declarations = without_assertions env.declarations }) e (λ known. forgotten_step) declares
-  parts_step at raw c new first second before after mode h declares = found_step raw at c new before after h declares
+      step_of script env c typed.reset_assertions new (record env { declarations = without_assertions env.declarations }) e (λ known. forgotten_step script env sound) declares
+  parts_step at raw c new first second before after mode h declares = found_step script env sound raw at c new before after h declares

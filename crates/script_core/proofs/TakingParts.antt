@@ -33,7 +33,8 @@ use Rattle.script_core.specs.Checking.{environment_of}
 use Rattle.script_core.specs.Effects.{AnswersParts, AnswersSort, AnswersSorts, OnlySortsGrow}
 use Rattle.script_core.specs.Environment.{Environment, signature_in}
 use Rattle.script_core.specs.RuleAnswers.{tokens_left}
-use Rattle.script_core.specs.Rules.{after_option, attribute_key, attribute_value, is_true, judge_params, next_number, value_of, with_defined_sort, with_function}
+use Rattle.script_core.specs.Rules.{after_option, is_true, judge_params, next_number, value_of, with_defined_sort, with_function}
+use Rattle.typer.specs.TermRules.{attribute_key, attribute_value}
 use Rattle.script_core.proofs.ReadyScopes.{with_scopes}
 
 -- the environment where declarations have changed
@@ -136,11 +137,11 @@ pub schemas_later : (old new : Scope) (rs : List NumberedSort) → OnlySortsGrow
 schemas_later old new rs g h =
     λ k d l. subst (λ (ns : List (List ℕ)). IsReadySchema ns new.world.sorts 0 (slice_index_or rs k d)) (sym (same_names old new g)) (schema_grown old.world.names old.world.sorts new.world.sorts g.grows 0 _ (h k d l))
 
-same_pair : {A B : Type 0} (a b : A) (x y : B) → a ≡ b → x ≡ y → ◌≡◌ {A = A × B} (a, x) (b, y)
+pub same_pair : {A B : Type 0} (a b : A) (x y : B) → a ≡ b → x ≡ y → ◌≡◌ {A = A × B} (a, x) (b, y)
 same_pair a b x y e f = cc
 
 -- the number of a declaration
-number_kept : (old near : Scope) (given : DeclNo) → OnlySortsGrow old near → given ≡ record { 0 = near.next } → given ≡ next_number (environment_of old.world.names old)
+pub number_kept : (old near : Scope) (given : DeclNo) → OnlySortsGrow old near → given ≡ record { 0 = near.next } → given ≡ next_number (environment_of old.world.names old)
 number_kept old near given more e = e ∙ ap (λ (s : Scope). next_number (environment_of s.world.names s)) more.others
 
 -- levels that are pushed or popped

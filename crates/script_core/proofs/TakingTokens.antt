@@ -1,5 +1,5 @@
 -- The answers of a builder, as a checker sees them.
-use Rattle.std.proofs.Common.{◌≡◌, ℕ, ◌+◌, ◌<◌, ◌≤◌, true, List, [], ◌∷◌, ◌++◌, length, Option, None, Some, Result, Ok, Err, refl, sym, ◌∙◌, ap, subst, append_assoc, append-nil, length-append, arith}
+use Rattle.std.proofs.Common.{◌≡◌, ℕ, ◌+◌, ◌<◌, ◌≤◌, true, List, [], ◌∷◌, ◌++◌, length, map, Option, None, Some, Result, Ok, Err, refl, sym, ◌∙◌, ap, subst, append_assoc, append-nil, length-append, arith}
 use Rattle.std.specs.Prelude.{IfErr, IfOk, IfSome, OnErr, OnOk}
 use Rattle.std.specs.List.{list_any}
 use Rattle.std.specs.Str.{bytes_eq}
@@ -17,7 +17,7 @@ use Rattle.sexp_core.specs.Sexp.{Sexp, flat}
 use Rattle.sexp_core.specs.Tokens.{flat_of, flat_tok, flat_tokens}
 use Rattle.sexp_core.specs.declared.builder.SexpError.{SexpError}
 use Rattle.sexp_core.specs.declared.builder.SexpError.TheVariants as error
-use Rattle.term_store.specs.Command.{PlainCommand}
+use Rattle.term_store.specs.Command.{PlainCommand, plain_command}
 use Rattle.term_store.specs.Script.{commands_of}
 use Rattle.script_core.specs.declared.checker.Checker.{Checker}
 use Rattle.script_core.specs.declared.refusal.Progress.{Progress}
@@ -28,6 +28,7 @@ use Rattle.script_core.specs.declared.scope.Scope.{Scope}
 use Rattle.script_core.specs.declared.refusal.Stop.TheVariants.{Refused, NoMemory}
 use Rattle.script_core.specs.Checking.{Awaits, BreaksAmong, BreaksTree, BreaksWith, BreaksWithin, Exits, ExitsWithin, HasTokensOf, IfEnded, IfMore, IfRefused, IsReadyScope, TakesTokens, TakesTree, TokenBreaks, accepted_by}
 use Rattle.script_core.specs.Interned.{AreInterned}
+use Rattle.script_core.specs.Keeping.{KeepsEarlier}
 use Rattle.script_core.specs.Numbering.{table_after}
 use Rattle.script_core.proofs.FollowingTokens.{breaks_command, breaks_lists, exits_list, follows_inside, follows_list, interned_last}
 use Rattle.script_core.proofs.NameTables.{name_in_table}
@@ -76,13 +77,13 @@ ended_list c n tok o t (Ok progress.Ended) table named e tree steps = λ tokens 
 pub counted_more : (old new : Scope) (t : Sexp Tok) (goes : Progress) → TakesTree old t goes new → length (commands_of new.world.script) ≤ length (commands_of old.world.script) + 1
 counted_more old new t goes takes = omega (arith, ap length takes.put_last, length-append (commands_of old.world.script) (takes.command ∷ []))
 
--- where the script is as before, so are the commands accepted
-same_accepted : (c n : Checker) → n.scope.world.script ≡ c.scope.world.script → accepted_by c ≡ accepted_by n
-same_accepted c n e = ap commands_of (sym e)
+-- where the commands are as before, so are those accepted
+same_accepted : (c n : Checker) → KeepsEarlier c.scope.next c.scope.world.script n.scope.world.script → accepted_by c ≡ accepted_by n
+same_accepted c n e = ap (map plain_command) (sym e.commands)
 
 pub refused_list : (c n : Checker) (tok : Tok) (o : Option (Sexp Tok)) (t : Sexp Tok) (r : Result Progress Stop) → IsNameTable c.scope.world.names → tok.name < length c.scope.world.names
     → o ≡ Some t → (c.builder.1 ≡ None → IfSome o (IsTaken c tok))
-    → IfErr r (λ e. IfRefused e (BreaksTree c t)) → OnErr r (n.scope.world.script ≡ c.scope.world.script)
+    → IfErr r (λ e. IfRefused e (BreaksTree c t)) → OnErr r (KeepsEarlier c.scope.next c.scope.world.script n.scope.world.script)
     → IfErr r (λ e. IfRefused e (BreaksWith c (token_of c.scope.world.names tok) (accepted_by n)))
 refused_list c n tok o t (Ok u) table named e tree h same = tt
 refused_list c n tok o t (Err NoMemory) table named e tree h same = tt

@@ -8,7 +8,6 @@ use Rattle.sexp_core.specs.Reading.{IsList, Reads, TreeFault}
 use Rattle.sexp_core.specs.Sexp.{FlatToken, Sexp, flat, map_flat}
 use Rattle.sexp_core.specs.Tokens.{flat_token, flat_tokens}
 use Rattle.term_store.specs.Command.{PlainCommand}
-use Rattle.term_store.specs.Definitions.{no_definitions}
 use Rattle.term_store.specs.Script.{commands_of}
 use Rattle.judgement.specs.Judging.{ill_sorted, well_sorted}
 use Rattle.typer.specs.Declarations.{declarations_of}
@@ -27,6 +26,7 @@ use Rattle.script_core.specs.declared.scope.StepError.TheVariants as error
 use Rattle.script_core.specs.Acceptance.{Accepts, Refuses, Sofar, place_of}
 use Rattle.script_core.specs.Environment.{Environment, start}
 use Rattle.script_core.specs.Interned.{AreInterned}
+use Rattle.script_core.specs.Keeping.{KeepsDefined}
 use Rattle.script_core.specs.Numbering.{table_after}
 use Rattle.script_core.specs.Steps.{all_taken, exited, ListFault, Run, Runs, is_exit, judge_tree}
 
@@ -55,7 +55,7 @@ abbrev pub accepted_by : Checker → List PlainCommand
 accepted_by checker = commands_of checker.scope.world.script
 
 -- The checker has taken these tokens, whose names are in the table `known`: their complete lists are accepted, and it keeps their
--- commands, none of which defines anything, and the tokens of the unfinished list. Its own table may have the name of the next token besides.
+-- commands, what these define, and the tokens of the unfinished list. Its own table may have the name of the next token besides.
 pub record Follows (known : List (List ℕ)) (tokens : List Token) (checker : Checker) : Type 0 where
   pub lists : List (Sexp Token)
   -- the names after the complete lists
@@ -65,7 +65,7 @@ pub record Follows (known : List (List ℕ)) (tokens : List Token) (checker : Ch
   pub runs : Runs start lists (record { commands = accepted_by checker; env = environment_of names checker.scope; cause = all_taken })
   pub interned : AreInterned checker.scope.world.names checker.builder.0
   pub table : known ≡ table_after names (texts_of checker.scope.world.names checker.builder.0)
-  pub undefined : checker.scope.world.script.defs ≡ no_definitions
+  pub keeps : KeepsDefined checker.scope.world.script
   pub stands : IsReadyScope checker.scope
 
 -- the checker has taken these tokens, and its table has their names alone
@@ -193,7 +193,7 @@ pub record TakesTree (old : Scope) (t : Sexp Tok) (goes : Progress) (new : Scope
   pub judged : judge_tree (environment_of old.world.names old) t [] (well_sorted (command, environment_of old.world.names new) declared)
   pub goes_on : goes ≡ progress_of (is_exit command)
   pub put_last : commands_of new.world.script ≡ commands_of old.world.script ++ command ∷ []
-  pub defines_nothing : new.world.script.defs ≡ old.world.script.defs
+  pub keeps : KeepsDefined old.world.script → KeepsDefined new.world.script
 
 -- what the judging of a tree answers
 abbrev pub AnswersTree : Scope → Sexp Tok → Result Progress StepError → Scope → Type 0

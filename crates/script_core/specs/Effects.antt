@@ -1,24 +1,28 @@
 -- What the parts of a command answer, and what they lead to.
-use Rattle.std.specs.Prelude.{◌≡◌, ℕ, ◌<◌, Bool, false, IsTrue, List, [], length, map, Some, Result, Ok, Err}
+use Rattle.std.specs.Prelude.{◌≡◌, ℕ, ◌<◌, Bool, false, IsTrue, List, [], ◌∷◌, length, map, Some, Result, Ok, Err}
+use Rattle.std.specs.List.{All}
 use Rattle.sig_table.specs.declared.code.Code.TheVariants.{WrongCommandForm}
 use Rattle.judgement.specs.Judging.{Judging, find, ill_sorted, well_sorted}
 use Rattle.sort_store.specs.Interned.{Grows}
 use Rattle.sort_store.specs.Tree.{NumberedSort, tree}
+use Rattle.sort_store.specs.Tree as sorts
 use Rattle.term_grammar.specs.Syntax.{Sort, Sorts, Term}
-use Rattle.cmd_grammar.specs.Commands.{Command, declare_const, declare_fun, declare_sort, define_sort, echo, exit, get_info, get_option, reset, set_info, set_logic, set_option}
+use Rattle.cmd_grammar.specs.Commands.{Command, FunDec, declare_const, declare_fun, declare_sort, define_fun, define_fun_rec, define_funs_rec, define_sort, echo, exit, get_info, get_option, reset, set_info, set_logic, set_option}
 use Rattle.typer.specs.SortRules.{judge_sort, judge_sorts}
 use Rattle.typer.specs.TermRules.{judge_term}
 use Rattle.term_store.specs.declared.command.TypedCommand.{TypedCommand}
 use Rattle.term_store.specs.Command.{plain_command}
-use Rattle.term_store.specs.Term.{NumberedTerm, tree as term_tree}
+use Rattle.term_store.specs.Term.{NumberedTerm, plain_var, tree as term_tree}
+use Rattle.typer.specs.Ready.{IsReadySchema}
 use Rattle.typer.specs.declared.error.TyError.{TyError}
 use Rattle.typer.specs.declared.error.TyError.TheVariants as ty
 use Rattle.script_core.specs.Checking.{environment_of}
+use Rattle.script_core.specs.declared.definitions.FunHeader.{FunHeader}
 use Rattle.script_core.specs.declared.scope.Scope.{Scope}
 use Rattle.script_core.specs.declared.scope.StepError.{StepError}
 use Rattle.script_core.specs.declared.scope.StepError.TheVariants as error
 use Rattle.script_core.specs.Environment.{Environment, signature_in}
-use Rattle.script_core.specs.Rules.{judge_parts, unchanging}
+use Rattle.script_core.specs.Rules.{Header, judge_parts, unchanging}
 
 -- Ok has what the judgement leads to, a broken rule is its fault, and want of memory says nothing. No name is declared by an
 -- annotation.
@@ -35,15 +39,28 @@ AnswersParts old at command result new = Answers (judge_parts old at command) (�
 abbrev pub AnswersUnchanging : ℕ → Command → Result TypedCommand StepError → Type 0
 AnswersUnchanging at command result = Answers (find (λ c. unchanging command ≡ Some c) WrongCommandForm at) plain_command result
 
--- the sort of a raw sort under the parameters of the command, the sorts of some raw sorts, and the typed term of a term
+-- the sort of a raw sort under the parameters of the command, the sorts of some raw sorts, and the typed term of a term in which
+-- variables are bound
 abbrev pub AnswersSort : Environment → List ℕ → Sort → Result NumberedSort StepError → Type 0
 AnswersSort env params s result = Answers (judge_sort env.names env.declarations env.theories params s) tree result
 
 abbrev pub AnswersSorts : Environment → Sorts → Result (List NumberedSort) StepError → Type 0
 AnswersSorts env ss result = Answers (judge_sorts env.names env.declarations env.theories [] ss) (λ rs. map tree rs) result
 
-abbrev pub AnswersTerm : Environment → Term → Result NumberedTerm StepError → Type 0
-AnswersTerm env t result = Answers (judge_term (signature_in env) [] t) term_tree result
+abbrev pub AnswersTerm : Environment → List (ℕ × sorts.Sort) → Term → Result NumberedTerm StepError → Type 0
+AnswersTerm env vars t result = Answers (judge_term (signature_in env) vars t) term_tree result
+
+-- a header by the trees of its sorts
+abbrev pub plain_header : FunHeader → Header
+plain_header h = record { no = h.no; name = h.name; params = map plain_var h.params; result = tree h.result }
+
+-- the sorts of variables may stand in a declaration, and so may those of a header
+abbrev pub AreReadyVars : Scope → List (ℕ × NumberedSort) → Type 0
+AreReadyVars scope vars = All (IsReadySchema scope.world.names scope.world.sorts 0) (map (λ v. v.1) vars)
+
+pub record IsReadyHeader (scope : Scope) (h : FunHeader) : Type 0 where
+  pub params : AreReadyVars scope h.params
+  pub result : IsReadySchema scope.world.names scope.world.sorts 0 h.result
 
 -- why a command is not accepted whose sort or term has no sort
 abbrev pub step_error_of : TyError → StepError
@@ -59,12 +76,20 @@ pub record OnlySortsGrow (old new : Scope) : Type 0 where
 abbrev pub IsSameTo : Scope → Scope → Type 0
 IsSameTo old new = environment_of new.world.names new ≡ environment_of old.world.names old
 
+-- the names of the functions are in the table
+abbrev pub AreNamed : List (List ℕ) → List FunDec → Type 0
+AreNamed texts [] = Unit {0}
+AreNamed texts (f ∷ fs) = (f.name.name < length texts) × AreNamed texts fs
+
 -- the name that the command declares is in the table
 abbrev pub IsDeclaredNamed : List (List ℕ) → Command → Type 0
 IsDeclaredNamed texts (declare_const n s) = n.name < length texts
 IsDeclaredNamed texts (declare_fun n ss s) = n.name < length texts
 IsDeclaredNamed texts (declare_sort n a) = n.name < length texts
 IsDeclaredNamed texts (define_sort n ps s) = n.name < length texts
+IsDeclaredNamed texts (define_fun f) = f.name.name < length texts
+IsDeclaredNamed texts (define_fun_rec f) = f.name.name < length texts
+IsDeclaredNamed texts (define_funs_rec fs ts) = AreNamed texts fs
 IsDeclaredNamed texts command = Unit {0}
 
 -- A logic is set where the command needs one, and none where it sets one.

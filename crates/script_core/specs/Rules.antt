@@ -12,42 +12,50 @@ use Rattle.sort_store.specs.CoreRanks.{bool}
 use Rattle.sort_store.specs.Tree as tree
 use Rattle.scope_stack.specs.declared.entry.FunKind.TheVariants as kind
 use Rattle.term_grammar.specs.declared.words.TheConstants.{GLOBAL_DECLARATIONS, TRUE}
-use Rattle.term_grammar.specs.Syntax.{Attribute, keyword_attribute, valued_attribute, Term, constant, qualified_term, application, let_in, for_all, there_exists, match_with, annotated, Terms, no_terms, with_term, term_at}
+use Rattle.term_grammar.specs.Syntax.{Attribute, keyword_attribute, valued_attribute, Sort, SortedSymbol, Term, constant, qualified_term, application, let_in, for_all, there_exists, match_with, annotated, Terms, no_terms, with_term, Bindings, no_bindings, with_binding, Notes, no_notes, with_note, Note, named_note, pattern_note, attribute_note, term_at}
 use Rattle.cmd_grammar.specs.DeclarationViews.{literal_term}
-use Rattle.cmd_grammar.specs.Commands.{Command, Literal, assert, check_sat, check_sat_assuming, declare_const, declare_datatype, declare_datatypes, declare_fun, declare_sort, define_fun, define_fun_rec, define_funs_rec, define_sort, echo, exit, get_assertions, get_assignment, get_info, get_model, get_option, get_proof, get_unsat_assumptions, get_unsat_core, get_value, pop, push, reset, reset_assertions, set_info, set_logic, set_option}
+use Rattle.cmd_grammar.specs.Commands.{Command, FunDec, Literal, assert, check_sat, check_sat_assuming, declare_const, declare_datatype, declare_datatypes, declare_fun, declare_sort, define_fun, define_fun_rec, define_funs_rec, define_sort, echo, exit, get_assertions, get_assignment, get_info, get_model, get_option, get_proof, get_unsat_assumptions, get_unsat_core, get_value, pop, push, reset, reset_assertions, set_info, set_logic, set_option}
 use Rattle.typer.specs.Numerals.{numeral_value}
 use Rattle.typer.specs.Declarations.{depth, free_sort, defined_sort, with_fun, with_global, with_popped, with_pushed, with_sort, without_assertions}
 use Rattle.typer.specs.SortRules.{judge_sort, judge_sorts}
-use Rattle.typer.specs.TermRules.{judge_term}
+use Rattle.typer.specs.TermRules.{attribute_key, attribute_value, judge_term, judge_terms}
 use Rattle.typer.specs.FunctionSymbols.{is_fun_in_use, is_sort_in_use}
-use Rattle.term_store.specs.Command.{PlainCommand}
+use Rattle.term_store.specs.Command.{PlainCommand, PlainDef}
 use Rattle.term_store.specs.Command as typed
 use Rattle.term_store.specs.Term.{PlainTerm, plain_sort}
-use Rattle.term_store.specs.Value.{unplaced}
+use Rattle.logic_frag.specs.FragmentRules.{DefinesRecursively, HasTerm, IsQuantifier}
 use Rattle.script_core.specs.Environment.{Environment, logic_theories, signature_in, start, text_of, theories_of}
 
 -- the commands that are built
 abbrev pub is_built : Command → Bool
 is_built (declare_datatype n d) = false
 is_built (declare_datatypes ss ds) = false
-is_built (define_fun f) = false
-is_built (define_fun_rec f) = false
-is_built (define_funs_rec fs ts) = false
-is_built (get_value ts) = false
 is_built command = true
 
--- The productions of terms that are built are the constant, the identifier, also with `as`, and the application of one to
--- terms. The first tree of another production is the fault, a tree before its parts.
+-- an attribute is :named
+abbrev pub has_named : Notes → Bool
+has_named no_notes = false
+has_named (with_note (named_note t) ns) = true
+has_named (with_note (pattern_note ts) ns) = has_named ns
+has_named (with_note (attribute_note a) ns) = has_named ns
+
+-- The productions of terms that are built are all but match, and annotations but those with :named. The first tree of another
+-- production is the fault, a tree before its parts.
 abbrev mutual
   pub judge_built : Term → Judging (Unit {0})
   judge_built (constant c) = done tt
   judge_built (qualified_term q) = done tt
   judge_built (application at q ts) = judge_all_built ts
-  judge_built (let_in at bs u) = refuse code.WrongTermForm at
-  judge_built (for_all at vs u) = refuse code.WrongTermForm at
-  judge_built (there_exists at vs u) = refuse code.WrongTermForm at
+  judge_built (let_in at bs u) = do
+    _ ← judge_bindings_built bs
+    judge_built u
+  judge_built (for_all at vs u) = judge_built u
+  judge_built (there_exists at vs u) = judge_built u
   judge_built (match_with at u cs) = refuse code.WrongTermForm at
-  judge_built (annotated at u ns) = refuse code.WrongTermForm at
+  judge_built (annotated at u ns) = do
+    _ ← check (has_named ns ≡ false) code.WrongTermForm at
+    _ ← judge_built u
+    judge_notes_built ns
 
   pub judge_all_built : Terms → Judging (Unit {0})
   judge_all_built no_terms = done tt
@@ -55,14 +63,31 @@ abbrev mutual
     _ ← judge_built t
     judge_all_built ts
 
+  pub judge_bindings_built : Bindings → Judging (Unit {0})
+  judge_bindings_built no_bindings = done tt
+  judge_bindings_built (with_binding at x t bs) = do
+    _ ← judge_built t
+    judge_bindings_built bs
+
+  pub judge_notes_built : Notes → Judging (Unit {0})
+  judge_notes_built no_notes = done tt
+  judge_notes_built (with_note n ns) = do
+    _ ← judge_note_built n
+    judge_notes_built ns
+
+  pub judge_note_built : Note → Judging (Unit {0})
+  judge_note_built (named_note t) = done tt
+  judge_note_built (pattern_note ts) = judge_all_built ts
+  judge_note_built (attribute_note a) = done tt
+
 -- a command that is not built is refused before its terms
 abbrev pub judge_form : ℕ → Command → Judging (Unit {0})
 judge_form at (assert t) = judge_built t
+judge_form at (define_fun f) = judge_built f.body
+judge_form at (define_fun_rec f) = judge_built f.body
+judge_form at (define_funs_rec fs ts) = judge_all_built ts
+judge_form at (get_value ts) = judge_all_built ts
 judge_form at command = check (IsTrue (is_built command)) code.WrongCommandForm at
-
-abbrev pub attribute_key : Attribute → Tok
-attribute_key (keyword_attribute k) = k
-attribute_key (valued_attribute k v) = k
 
 -- the value of a numeral in the text
 abbrev pub value_of : Environment → Tok → ℕ
@@ -136,11 +161,6 @@ judge_literals env (l ∷ ls) = do
   us ← judge_literals env ls
   done (u ∷ us)
 
--- the value of an attribute, if it has one
-abbrev pub attribute_value : Attribute → Option (Sexp Tok)
-attribute_value (keyword_attribute k) = None
-attribute_value (valued_attribute k v) = Some (unplaced v)
-
 -- the typed command of one that has no names, sorts or terms to judge and changes nothing, if it is one
 abbrev pub unchanging : Command → Option PlainCommand
 unchanging check_sat = Some typed.check_sat
@@ -160,6 +180,76 @@ unchanging command = None
 -- the number of the next declaration
 abbrev pub next_number : Environment → DeclNo
 next_number env = record { 0 = env.next }
+
+-- a parameter of a function with its sort, where the name is none of those before it
+abbrev pub judge_variable : Environment → List ℕ → SortedSymbol → Judging (ℕ × tree.Sort)
+judge_variable env before p = do
+  _ ← check (list_any (λ n. n == p.name.name) before ≡ false) code.RepeatedVariable p.name.at
+  s ← judge_sort env.names env.declarations env.theories [] p.sort
+  done (p.name.name, s)
+
+abbrev pub judge_variables : Environment → List ℕ → List SortedSymbol → Judging (List (ℕ × tree.Sort))
+judge_variables env before [] = done []
+judge_variables env before (p ∷ ps) = do
+  v ← judge_variable env before p
+  vs ← judge_variables env (before ++ v.0 ∷ []) ps
+  done (v ∷ vs)
+
+-- what a definition says before its body
+pub record Header : Type 0 where
+  pub no : DeclNo
+  pub name : ℕ
+  pub params : List (ℕ × tree.Sort)
+  pub result : tree.Sort
+
+abbrev pub judge_header : Environment → Tok → List SortedSymbol → Sort → Judging Header
+judge_header env n ps s = do
+  _ ← check (is_fun_in_use (signature_in env) n.name ≡ false) code.FunctionNameInUse n.at
+  params ← judge_variables env [] ps
+  result ← judge_sort env.names env.declarations env.theories [] s
+  done (record { no = next_number env; name = n.name; params = params; result = result })
+
+-- the function is live
+abbrev pub with_header : Environment → Header → Environment
+with_header env h = with_function env h.name (map (λ v. v.1) h.params) h.result
+
+-- the body, in which the parameters are bound, has the result sort
+abbrev pub judge_body : Environment → Header → Term → Judging PlainTerm
+judge_body env h t = do
+  u ← judge_term (signature_in env) h.params t
+  _ ← check (plain_sort u ≡ h.result) code.WrongTermSort (term_at t)
+  done u
+
+-- the definition, which may be recursive
+abbrev pub defined : Header → Bool → PlainTerm → PlainDef
+defined h recursive u = record { no = h.no; name = h.name; params = h.params; result = h.result; body = u; recursive = recursive }
+
+-- functions that are declared together: each is live for those after it
+abbrev pub judge_headers : Environment → List FunDec → Judging (List Header)
+judge_headers env [] = done []
+judge_headers env (f ∷ fs) = do
+  h ← judge_header env f.name f.params f.result
+  hs ← judge_headers (with_header env h) fs
+  done (h ∷ hs)
+
+abbrev pub with_headers : Environment → List Header → Environment
+with_headers env [] = env
+with_headers env (h ∷ hs) = with_headers (with_header env h) hs
+
+-- the definition of one of them
+abbrev pub judge_member : Environment → Header → Term → Judging PlainDef
+judge_member env h t = do
+  u ← judge_body env h t
+  done (defined h true u)
+
+-- Their definitions, one body for each. By the grammar there are as many bodies.
+abbrev pub judge_members : Environment → ℕ → List Header → Terms → Judging (List PlainDef)
+judge_members env at [] ts = done []
+judge_members env at (h ∷ hs) no_terms = refuse code.WrongCommandForm at
+judge_members env at (h ∷ hs) (with_term t ts) = do
+  d ← judge_member env h t
+  ds ← judge_members env at hs ts
+  done (d ∷ ds)
 
 -- The names, sorts and terms of the command whose list begins at this byte, with the typed command that is kept and what it leads
 -- to. A name that is in use is the first fault of a declaration. `reset` forgets all but the names and the next number, since a
@@ -189,6 +279,21 @@ judge_parts env at (define_sort n ps s) = do
   _ ← judge_params [] ps
   body ← judge_sort env.names env.declarations env.theories (map (λ p. p.name) ps) s
   done (typed.define_sort n.name (map (λ p. p.name) ps) body, with_defined_sort env n.name (length ps) body)
+judge_parts env at (define_fun f) = do
+  h ← judge_header env f.name f.params f.result
+  u ← judge_body env h f.body
+  done (typed.define_fun (defined h false u), with_header env h)
+judge_parts env at (define_fun_rec f) = do
+  h ← judge_header env f.name f.params f.result
+  u ← judge_body (with_header env h) h f.body
+  done (typed.define_fun_rec (defined h true u), with_header env h)
+judge_parts env at (define_funs_rec fs ts) = do
+  hs ← judge_headers env fs
+  ds ← judge_members (with_headers env hs) at hs ts
+  done (typed.define_funs_rec ds, with_headers env hs)
+judge_parts env at (get_value ts) = do
+  us ← judge_terms (signature_in env) [] ts
+  done (typed.get_value us, env)
 judge_parts env at (set_logic n) = done (typed.set_logic n.name, record env { logic = true; theories = theories_of env n })
 judge_parts env at (set_option a) = done (typed.set_option (attribute_key a).name (attribute_value a), after_option env a)
 judge_parts env at (push n) = done (typed.push (value_of env n), record env { declarations = with_pushed (value_of env n) env.declarations })
@@ -199,9 +304,18 @@ judge_parts env at command = do
   c ← find (λ c. unchanging command ≡ Some c) code.WrongCommandForm at
   done (c, env)
 
+-- Whether the logic allows the typed command. Of the logics that are built ALL alone allows quantifiers and recursive definitions,
+-- and it alone has Ints.
+abbrev pub judge_fragment : Environment → ℕ → PlainCommand → Judging (Unit {0})
+judge_fragment env at c = do
+  _ ← check (HasTerm c (λ o. IsQuantifier o.its) → IsTrue env.theories.ints) code.QuantifierOutsideLogic at
+  check (DefinesRecursively c → IsTrue env.theories.ints) code.RecursionOutsideLogic at
+
 -- the command whose list begins at this byte
 abbrev pub judge_command : Environment → ℕ → Command → Judging (PlainCommand × Environment)
 judge_command env at command = do
   _ ← judge_form at command
   _ ← judge_mode env at command
-  judge_parts env at command
+  made ← judge_parts env at command
+  _ ← judge_fragment env at made.0
+  done made

@@ -5,6 +5,7 @@ ghost use Rattle.lex_core.specs.Token.{IsInterned, Token, fed_tokens, option_tok
 ghost use Rattle.sexp_core.specs.Sexp.{flat};
 ghost use Rattle.term_store.specs.SoundScript.{IsSound};
 ghost use Rattle.script_core.specs.Interned.{AreInterned};
+ghost use Rattle.script_core.specs.Keeping.{KeepsBelow, KeepsEarlier};
 ghost use Rattle.script_core.specs.Checking.{Awaits, BreaksTree, BreaksWith, BreaksWithin, HasTaken, IfEnded, IfMore, IfRefused, IsReadyScope, accepted_by};
 ghost use Rattle.script_core.specs.Checking.{AcceptsText, ExitsByte, ExitsBytes, ExitsWithin, RefusesByte, RefusesBytes, RefusesText, TakesByte, TakesBytes, TakesTokens, TakesTree};
 
@@ -68,11 +69,12 @@ impl Checker {
     fn take_list(&mut self, tree: &Tree) -> Result<Progress, Stop>
         requires interned { AreInterned self.old.scope.world.names (flat tree.now) }
         requires stands { IsReadyScope self.old.scope }
+        requires kept { KeepsBelow self.old.scope.next self.old.scope.world.script.defs }
         requires few { length (accepted_by self.old) + 1 < 2 ^ 32 - 1 }
         ensures ok { IfOk result (λ progress. TakesTree self.old.scope tree.now progress self.new.scope) }
         ensures refused { IfErr result (λ e. IfRefused e (BreaksTree self.old tree.now)) }
         ensures stands { OnOk result (IsReadyScope self.new.scope) }
-        ensures script { OnErr result (self.new.scope.world.script ≡ self.old.scope.world.script) }
+        ensures script { OnErr result (KeepsEarlier self.old.scope.next self.old.scope.world.script self.new.scope.world.script) }
         ensures counted { length (accepted_by self.new) ≤ length (accepted_by self.old) + 1 }
         ensures same { (self.new.scope.world.names ≡ self.old.scope.world.names) × (self.new.lexer ≡ self.old.lexer) × (self.new.builder ≡ self.old.builder) }
     {

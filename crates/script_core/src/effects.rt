@@ -4,35 +4,40 @@ ghost use Rattle.std.specs.Prelude.{◌≡◌, ◌↔◌, ◌==◌, ◌<◌, [],
 ghost use Rattle.std.specs.List.{All, list_any};
 ghost use Rattle.sort_store.specs.CoreRanks.{bool};
 ghost use Rattle.sort_store.specs.Tree.{tree};
-ghost use Rattle.cmd_grammar.specs.CommandViews.{command_from};
 ghost use Rattle.cmd_grammar.specs.Commands as command;
 ghost use Rattle.typer.specs.Ready.{IsReadySchema};
 ghost use Rattle.typer.specs.SortSymbols.{is_theory_sort};
 ghost use Rattle.typer.specs.Declarations.{without_assertions};
-ghost use Rattle.term_store.specs.Term.{plain_sort, tree as term_tree};
+ghost use Rattle.sort_store.specs.Interned.{Grows};
+ghost use Rattle.term_store.specs.Term.{plain_sort, plain_var, tree as term_tree};
+ghost use Rattle.typer.specs.Typed.{AreBound};
 ghost use Rattle.script_core.specs.Environment.{start, theories_of};
 ghost use Rattle.script_core.specs.Rules.{after_option, judge_bool, judge_params, is_true as is_true_value, with_defined_sort, with_free_sort, with_function};
-ghost use Rattle.script_core.specs.Effects.{Answers, AnswersParts, AnswersSort, AnswersSorts, AnswersTerm, IsDeclaredNamed, IsInMode, IsSameTo, OnlySortsGrow, step_error_of};
+ghost use Rattle.script_core.specs.Effects.{Answers, AnswersParts, AnswersSort, AnswersSorts, AnswersTerm, IsSameTo, OnlySortsGrow, step_error_of};
 ghost use Rattle.script_core.specs.Checking.{IsReadyScope, environment_of};
 
 use crate::logic::{core_alone, logic_theories};
 use crate::rules::{attribute_key, text_of, value_of};
 use crate::scope::{Scope, StepError};
-use crate::unchanging::{attribute_value, unchanging};
-use cmd_grammar::{RawCommandKind, RawLiterals};
+use crate::unchanging::attribute_value;
+use cmd_grammar::RawLiterals;
 use lex_core::{NameId, Place, Tok};
 use scope_stack::{FunEntry, FunKind, SortEntry};
 use sig_table::Code;
-use sort_store::{DeclNo, Head, SortRef, Sorts};
+use sort_store::{DeclNo, SortRef, Sorts};
 use std::alloc::Global;
 use term_grammar::{
     GLOBAL_DECLARATIONS, RawAttribute, RawAttributeKind, RawSort, RawSorts, RawSymbols, RawTerm,
-    RawValue, RawValueKind, TRUE,
+    RawTerms, RawValue, RawValueKind, TRUE,
 };
 use term_store::{ListOf, TermRef, TypedCommand};
-use typer::{TyError, is_fun_in_use, is_sort_in_use, type_sort, type_sorts, type_term};
+use typer::{
+    TyError, is_bool as is_bool_sort, is_fun_in_use, is_sort_in_use, type_sort, type_sorts,
+    type_term,
+};
 
-fn broken(code: Code, at: u32) -> StepError
+/// The fault with this code at this byte.
+pub fn broken(code: Code, at: u32) -> StepError
     ensures { result ≡ StepError.Broken (record { code = code; at = at }) }
 {
     StepError::Broken(Place { code, at })
@@ -47,8 +52,8 @@ fn step_error(error: TyError) -> StepError
     }
 }
 
-// The sort that a raw sort stands for, under the parameters of the command.
-fn sort_of(scope: &mut Scope, params: &[NameId], raw: RawSort) -> Result<SortRef, StepError>
+/// The sort that a raw sort stands for, under the parameters of the command.
+pub fn sort_of(scope: &mut Scope, params: &[NameId], raw: RawSort) -> Result<SortRef, StepError>
     requires stands { IsReadyScope scope.old }
     ensures answer { AnswersSort (environment_of scope.old.world.names scope.old) params.now raw.entry result }
     ensures schema { IfOk result (λ r. IsReadySchema scope.new.world.names scope.new.world.sorts (length params.now) r) }
@@ -76,8 +81,8 @@ fn list_of(alloc: Global, sorts: Vec<SortRef>) -> Result<Sorts, StepError>
     Ok(list)
 }
 
-// The same sort once more. The only error is that memory runs out.
-fn copy_of(sort: &SortRef) -> Result<SortRef, StepError>
+/// The same sort once more. The only error is that memory runs out.
+pub fn copy_of(sort: &SortRef) -> Result<SortRef, StepError>
     ensures ok { IfOk result (λ r. r ≡ sort.now) }
     ensures err { IfErr result (λ e. e ≡ StepError.NoMemory) }
 {
@@ -118,28 +123,31 @@ fn sorts_of(scope: &mut Scope, raws: RawSorts) -> Result<Sorts, StepError>
     }
 }
 
-// The typed term of a term.
-fn term_of(scope: &mut Scope, term: RawTerm) -> Result<TermRef, StepError>
+/// The typed term of a term in which variables are bound, the innermost last.
+pub fn term_of(
+    scope: &mut Scope,
+    vars: &[(NameId, SortRef)],
+    term: RawTerm,
+) -> Result<TermRef, StepError>
     requires stands { IsReadyScope scope.old }
-    ensures answer { AnswersTerm (environment_of scope.old.world.names scope.old) term.entry result }
+    requires vars { AreBound scope.old.world vars.now }
+    ensures answer { AnswersTerm (environment_of scope.old.world.names scope.old) (map plain_var vars.now) term.entry result }
     ensures same { IsSameTo scope.old scope.new }
+    ensures grows { Grows scope.old.world.sorts scope.new.world.sorts }
     ensures script { scope.new.world.script ≡ scope.old.world.script }
     ensures stands { IsReadyScope scope.new }
 {
-    match type_term(&mut scope.world, &[], term) {
+    match type_term(&mut scope.world, vars, term) {
         Ok(term) => Ok(term),
         Err(error) => Err(step_error(error)),
     }
 }
 
+#[tactic(auto, using(crate::proofs::BoolTerms::term_sort))]
 fn is_bool(term: &TermRef) -> bool
     ensures { IsTrue result ↔ (plain_sort (term_tree term.now) ≡ bool) }
 {
-    let sort = term.sort();
-    match sort.head() {
-        Head::Bool => sort.arg_count() == 0,
-        _ => false,
-    }
+    is_bool_sort(term.sort())
 }
 
 // The typed term of a term, which is of sort Bool.
@@ -151,14 +159,15 @@ fn bool_term(scope: &mut Scope, term: RawTerm) -> Result<TermRef, StepError>
     ensures stands { IsReadyScope scope.new }
 {
     let at = term.at();
-    let term = term_of(scope, term)?;
+    let term = term_of(scope, &[], term)?;
     if !is_bool(&term) {
         return Err(broken(Code::WrongTermSort, at));
     }
     Ok(term)
 }
 
-fn assertion(scope: &mut Scope, at: u32, term: RawTerm) -> Result<TypedCommand, StepError>
+/// Judges the term of an `assert`.
+pub fn assertion(scope: &mut Scope, at: u32, term: RawTerm) -> Result<TypedCommand, StepError>
     requires stands { IsReadyScope scope.old }
     ensures answer { let names = scope.old.world.names in
         AnswersParts (environment_of names scope.old) at (command.assert term.entry) result (environment_of names scope.new) }
@@ -170,8 +179,8 @@ fn assertion(scope: &mut Scope, at: u32, term: RawTerm) -> Result<TypedCommand, 
     Ok(TypedCommand::Assert { term })
 }
 
-// Each literal, read as a term, is of sort Bool.
-fn assumptions(
+/// Judges the literals of a `check-sat-assuming`: each, read as a term, is of sort Bool.
+pub fn assumptions(
     scope: &mut Scope,
     at: u32,
     literals: &RawLiterals,
@@ -196,8 +205,30 @@ fn assumptions(
     Ok(TypedCommand::CheckSatAssuming { terms })
 }
 
-// Declares a function symbol under the next number, which it answers. The only error is that memory runs out.
-fn add_function(
+/// Judges the terms of a `get-value`.
+pub fn values(scope: &mut Scope, at: u32, terms: &RawTerms) -> Result<TypedCommand, StepError>
+    requires stands { IsReadyScope scope.old }
+    ensures answer { let names = scope.old.world.names in
+        AnswersParts (environment_of names scope.old) at (command.get_value terms.now) result (environment_of names scope.new) }
+    ensures names { scope.new.world.names ≡ scope.old.world.names }
+    ensures script { scope.new.world.script ≡ scope.old.world.script }
+    ensures stands { IsReadyScope scope.new }
+{
+    let mut made: ListOf<TermRef> = ListOf::new(scope.alloc);
+    let mut next = terms.split();
+    while let Some((first, rest)) = next {
+        let term = term_of(scope, &[], first)?;
+        match made.push(term) {
+            Ok(()) => {}
+            Err(_) => return Err(StepError::NoMemory),
+        }
+        next = rest.split();
+    }
+    Ok(TypedCommand::GetValue { terms: made })
+}
+
+/// Declares a function symbol under the next number, which it answers. The only error is that memory runs out.
+pub fn add_function(
     scope: &mut Scope,
     name: NameId,
     args: Sorts,
@@ -213,6 +244,7 @@ fn add_function(
     ensures number { IfOk result (λ no. no ≡ record { 0 = scope.old.next }) }
     ensures error { IfErr result (λ e. e ≡ StepError.NoMemory) }
     ensures names { scope.new.world.names ≡ scope.old.world.names }
+    ensures sorts { scope.new.world.sorts ≡ scope.old.world.sorts }
     ensures script { scope.new.world.script ≡ scope.old.world.script }
     ensures stands { IsReadyScope scope.new }
 {
@@ -236,7 +268,8 @@ fn add_function(
     }
 }
 
-fn declare_const(
+/// Declares a constant.
+pub fn declare_const(
     scope: &mut Scope,
     at: u32,
     name: &Tok,
@@ -264,7 +297,8 @@ fn declare_const(
     })
 }
 
-fn declare_fun(
+/// Declares a function.
+pub fn declare_fun(
     scope: &mut Scope,
     at: u32,
     name: &Tok,
@@ -327,7 +361,8 @@ fn add_free_sort(scope: &mut Scope, name: NameId, arity: u32) -> Result<DeclNo, 
     }
 }
 
-fn declare_sort(
+/// Declares a sort symbol of a free sort.
+pub fn declare_sort(
     scope: &mut Scope,
     at: u32,
     name: &Tok,
@@ -409,7 +444,8 @@ fn add_defined_sort(
     }
 }
 
-fn define_sort(
+/// Declares a sort symbol of a defined sort.
+pub fn define_sort(
     scope: &mut Scope,
     at: u32,
     name: &Tok,
@@ -452,8 +488,8 @@ fn is_true(value: &RawValue) -> bool
     }
 }
 
-// Sets the logic, and with it the theories whose symbols are known. Core alone is known where no logic has the name.
-fn set_logic(scope: &mut Scope, name: &Tok)
+/// Sets the logic, and with it the theories whose symbols are known. Core alone is known where no logic has the name.
+pub fn set_logic(scope: &mut Scope, name: &Tok)
     requires stands { IsReadyScope scope.old }
     requires logic { scope.old.logic ≡ false }
     ensures effect { let env = environment_of scope.old.world.names in
@@ -483,7 +519,8 @@ fn set_global(scope: &mut Scope, attribute: &RawAttribute)
     }
 }
 
-fn set_option(
+/// Sets an option, and keeps it with its value.
+pub fn set_option(
     scope: &mut Scope,
     at: u32,
     attribute: &RawAttribute,
@@ -501,7 +538,8 @@ fn set_option(
     Ok(TypedCommand::SetOption { key, value })
 }
 
-fn push(scope: &mut Scope, at: u32, count: &Tok) -> Result<TypedCommand, StepError>
+/// Opens levels.
+pub fn push(scope: &mut Scope, at: u32, count: &Tok) -> Result<TypedCommand, StepError>
     requires stands { IsReadyScope scope.old }
     requires logic { IsTrue scope.old.logic }
     ensures answer { let names = scope.old.world.names in
@@ -519,7 +557,8 @@ fn push(scope: &mut Scope, at: u32, count: &Tok) -> Result<TypedCommand, StepErr
     }
 }
 
-fn pop(scope: &mut Scope, at: u32, count: &Tok) -> Result<TypedCommand, StepError>
+/// Closes levels.
+pub fn pop(scope: &mut Scope, at: u32, count: &Tok) -> Result<TypedCommand, StepError>
     requires stands { IsReadyScope scope.old }
     requires logic { IsTrue scope.old.logic }
     ensures answer { let names = scope.old.world.names in
@@ -537,8 +576,8 @@ fn pop(scope: &mut Scope, at: u32, count: &Tok) -> Result<TypedCommand, StepErro
     }
 }
 
-// Forgets all but the names, the sorts and terms made so far, and the next number.
-fn reset(scope: &mut Scope)
+/// Forgets all but the names, the sorts and terms made so far, and the next number.
+pub fn reset(scope: &mut Scope)
     requires stands { IsReadyScope scope.old }
     ensures effect { let names = scope.old.world.names in
         environment_of names scope.new ≡ record start { names = names; next = scope.old.next } }
@@ -551,7 +590,8 @@ fn reset(scope: &mut Scope)
     scope.logic = false;
 }
 
-fn reset_assertions(scope: &mut Scope)
+/// Forgets what is not global.
+pub fn reset_assertions(scope: &mut Scope)
     requires stands { IsReadyScope scope.old }
     requires logic { IsTrue scope.old.logic }
     ensures effect { let env = environment_of scope.old.world.names in
@@ -561,50 +601,4 @@ fn reset_assertions(scope: &mut Scope)
     ensures stands { IsReadyScope scope.new }
 {
     scope.world.scopes.reset_assertions();
-}
-
-/// Judges the names, sorts and terms of a command whose form and mode are judged and whose list begins at a byte, does what it
-/// leads to, and answers the typed command. `Broken` comes exactly where one breaks a rule.
-pub fn take_parts(
-    scope: &mut Scope,
-    at: u32,
-    command: RawCommandKind,
-) -> Result<TypedCommand, StepError>
-    requires stands { IsReadyScope scope.old }
-    requires named { IsDeclaredNamed scope.old.world.names (command_from command) }
-    requires mode { IsInMode scope.old.logic (command_from command) }
-    ensures answer { let names = scope.old.world.names in
-        AnswersParts (environment_of names scope.old) at (command_from command.entry) result (environment_of names scope.new) }
-    ensures names { scope.new.world.names ≡ scope.old.world.names }
-    ensures script { scope.new.world.script ≡ scope.old.world.script }
-    ensures stands { IsReadyScope scope.new }
-{
-    match command {
-        RawCommandKind::Assert(term) => assertion(scope, at, term),
-        RawCommandKind::CheckSatAssuming(literals) => assumptions(scope, at, &literals),
-        RawCommandKind::DeclareConst { name, sort } => declare_const(scope, at, &name, sort),
-        RawCommandKind::DeclareFun { name, args, result } => declare_fun(
-            scope, at, &name, args, result,
-        ),
-        RawCommandKind::DeclareSort { name, arity } => declare_sort(scope, at, &name, &arity),
-        RawCommandKind::DefineSort { name, params, sort } => {
-            define_sort(scope, at, &name, &params, sort)
-        }
-        RawCommandKind::Push(count) => push(scope, at, &count),
-        RawCommandKind::Pop(count) => pop(scope, at, &count),
-        RawCommandKind::SetLogic(name) => {
-            set_logic(scope, &name);
-            Ok(TypedCommand::SetLogic { name: name.name })
-        }
-        RawCommandKind::SetOption(attribute) => set_option(scope, at, &attribute),
-        RawCommandKind::Reset => {
-            reset(scope);
-            Ok(TypedCommand::Reset)
-        }
-        RawCommandKind::ResetAssertions => {
-            reset_assertions(scope);
-            Ok(TypedCommand::ResetAssertions)
-        }
-        other => unchanging(scope.alloc, at, &other),
-    }
 }

@@ -2,18 +2,20 @@
 ghost use Rattle.std.specs.Prelude.{◌≡◌, ◌↔◌, ◌≤◌, ◌^◌, [], IfSome, IsNone, slice_index_or};
 ghost use Rattle.cmd_grammar.specs.CommandViews.{command_from};
 ghost use Rattle.typer.specs.Numerals.{numeral_value as value_of_text};
-ghost use Rattle.script_core.specs.Rules.{attribute_key as key_of_attribute};
-ghost use Rattle.script_core.specs.RuleAnswers.{answer_all_built, answer_built, answer_form, answer_mode, answer_pop, answer_push, both, test};
+ghost use Rattle.typer.specs.TermRules.{attribute_key as key_of_attribute};
+ghost use Rattle.script_core.specs.RuleAnswers.{answer_form, answer_fragment, answer_mode, answer_pop, answer_push, both, is_quantified as is_quantified_command, is_recursive as is_recursive_command, test};
+ghost use Rattle.term_store.specs.Command.{plain_command};
 ghost use Rattle.script_core.specs.Checking.{environment_of};
 
+use crate::built::{judge_all_built, judge_built};
 use crate::logic::logic_theories;
 use crate::scope::Scope;
 use cmd_grammar::RawCommandKind;
 use lex_core::{NameId, Names, Place, Tok};
-use sig_table::Code;
-use term_grammar::{
-    GLOBAL_DECLARATIONS, RawAttribute, RawAttributeKind, RawTerm, RawTermKind, RawTerms,
-};
+use logic_frag::has_quantifier;
+use sig_table::{Code, Theories};
+use term_grammar::{GLOBAL_DECLARATIONS, RawAttribute, RawAttributeKind};
+use term_store::TypedCommand;
 use typer::numeral_value;
 
 /// The text of a name, and no bytes where the table does not have it.
@@ -52,50 +54,19 @@ pub fn attribute_key(attribute: &RawAttribute) -> Tok
     }
 }
 
-/// Finds the first tree of a production that is not built, a tree before its parts.
-#[cycle(built)]
-pub fn judge_built(term: &RawTerm) -> Result<(), Place>
-    ensures { result ≡ answer_built term.now }
-{
-    let at = term.at();
-    match term.kind() {
-        RawTermKind::Constant(_) | RawTermKind::Qualified(_) => Ok(()),
-        RawTermKind::Application { args, .. } => judge_all_built(&args),
-        RawTermKind::Let { .. }
-        | RawTermKind::Forall { .. }
-        | RawTermKind::Exists { .. }
-        | RawTermKind::Match { .. }
-        | RawTermKind::Annotated { .. } => Err(Place {
-            code: Code::WrongTermForm,
-            at,
-        }),
-    }
-}
-
-#[cycle(built)]
-fn judge_all_built(terms: &RawTerms) -> Result<(), Place>
-    ensures { result ≡ answer_all_built terms.now }
-{
-    let mut next = terms.split();
-    while let Some((first, rest)) = next {
-        judge_built(&first)?;
-        next = rest.split();
-    }
-    Ok(())
-}
-
 // Whether the command is built, and the productions of its terms.
 fn judge_form(at: u32, command: &RawCommandKind) -> Result<(), Place>
     ensures { result ≡ answer_form at (command_from command.now) }
 {
     match command {
         RawCommandKind::Assert(term) => judge_built(term),
-        RawCommandKind::DeclareDatatype { .. }
-        | RawCommandKind::DeclareDatatypes { .. }
-        | RawCommandKind::DefineFun(_)
-        | RawCommandKind::DefineFunRec(_)
-        | RawCommandKind::DefineFunsRec { .. }
-        | RawCommandKind::GetValue(_) => rule(false, Code::WrongCommandForm, at),
+        RawCommandKind::DefineFun(definition) => judge_built(&definition.body),
+        RawCommandKind::DefineFunRec(definition) => judge_built(&definition.body),
+        RawCommandKind::DefineFunsRec { bodies, .. } => judge_all_built(bodies),
+        RawCommandKind::GetValue(terms) => judge_all_built(terms),
+        RawCommandKind::DeclareDatatype { .. } | RawCommandKind::DeclareDatatypes { .. } => {
+            rule(false, Code::WrongCommandForm, at)
+        }
         _ => Ok(()),
     }
 }
@@ -157,4 +128,30 @@ pub fn judge_command(scope: &Scope, at: u32, command: &RawCommandKind) -> Result
 {
     judge_form(at, command)?;
     judge_mode(scope, at, command)
+}
+
+fn is_quantified(command: &TypedCommand) -> bool
+    ensures { result ≡ is_quantified_command (plain_command command.now) }
+{
+    has_quantifier(command)
+}
+
+// Whether the command defines functions recursively.
+fn is_recursive(command: &TypedCommand) -> bool
+    ensures { result ≡ is_recursive_command (plain_command command.now) }
+{
+    matches!(
+        command,
+        TypedCommand::DefineFunRec { .. } | TypedCommand::DefineFunsRec { .. }
+    )
+}
+
+/// Judges whether the logic, by its theories, allows the command, whose list begins at this byte.
+pub fn judge_fragment(theories: Theories, at: u32, command: &TypedCommand) -> Result<(), Place>
+    ensures { result ≡ answer_fragment theories at (plain_command command.now) }
+{
+    let quantified = !is_quantified(command) || theories.ints;
+    rule(quantified, Code::QuantifierOutsideLogic, at)?;
+    let recursive = !is_recursive(command) || theories.ints;
+    rule(recursive, Code::RecursionOutsideLogic, at)
 }

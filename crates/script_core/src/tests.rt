@@ -1,5 +1,7 @@
 ghost use Rattle.std.specs.Prelude.{◌≡◌, false};
 
+mod definitions;
+
 use super::*;
 use crate::rules::text_of;
 use sig_table::Code;
@@ -57,7 +59,7 @@ fn try_refused(
 
 #[test]
 fn refuses_texts_at_their_bytes(rt: HostRuntime) -> Result<(), Fail> {
-    let rows: [(&[u8], u32, u32, Code); 31] = [
+    let rows: [(&[u8], u32, u32, Code); 32] = [
         (b"a[", 1, 0, Code::AtomOutsideLists),
         (b"(echo \"a\"", 1, 0, Code::UnclosedList),
         (
@@ -80,11 +82,17 @@ fn refuses_texts_at_their_bytes(rt: HostRuntime) -> Result<(), Fail> {
         (b"(check-sat 1)", 1, 0, Code::WrongCommandForm),
         (b"(assert (let () true))", 1, 8, Code::WrongTermForm),
         (b"(push 1)", 1, 0, Code::LogicNotSet),
-        (b"(get-value (p))", 1, 0, Code::WrongCommandForm),
+        (b"(get-value (p))", 1, 0, Code::LogicNotSet),
         (
-            b"(set-logic QF_UF)(assert (and true (let ((x true)) x)))",
+            b"(set-logic QF_UF)(assert (and true (match true ((y y)))))",
             2,
             35,
+            Code::WrongTermForm,
+        ),
+        (
+            b"(set-logic QF_UF)(assert (let ((x true)) (! x :weight 1 :named n)))",
+            2,
+            41,
             Code::WrongTermForm,
         ),
         (b"(assert true)", 1, 0, Code::LogicNotSet),
@@ -279,7 +287,7 @@ fn refuses_names_of_theories_at_their_bytes(rt: HostRuntime) -> Result<(), Fail>
 
 #[test]
 fn refuses_terms_of_theories_at_their_bytes(rt: HostRuntime) -> Result<(), Fail> {
-    let rows: [(&[u8], u32, u32, Code); 7] = [
+    let rows: [(&[u8], u32, u32, Code); 12] = [
         (
             b"(set-logic ALL)(declare-const x Int)(assert (= x true))",
             3,
@@ -293,6 +301,36 @@ fn refuses_terms_of_theories_at_their_bytes(rt: HostRuntime) -> Result<(), Fail>
             Code::WrongQualifiedSort,
         ),
         (b"(set-logic ALL)(assert 1)", 2, 23, Code::WrongTermSort),
+        (
+            b"(set-logic ALL)(assert (forall ((x Int)) x))",
+            2,
+            41,
+            Code::WrongTermSort,
+        ),
+        (
+            b"(set-logic QF_UF)(assert (let ((y true)) (forall ((x Bool)) x)))",
+            2,
+            17,
+            Code::QuantifierOutsideLogic,
+        ),
+        (
+            b"(set-logic ALL)(assert (let ((x true) (x true)) x))",
+            2,
+            39,
+            Code::RepeatedVariable,
+        ),
+        (
+            b"(set-logic ALL)(assert (exists ((x Bool)) (and x y)))",
+            2,
+            49,
+            Code::UnknownFunction,
+        ),
+        (
+            b"(set-logic ALL)(assert (let ((x true)) (x x)))",
+            2,
+            39,
+            Code::AppliedVariable,
+        ),
         (
             b"(set-logic ALL)(assert \"a\")",
             2,
@@ -354,7 +392,7 @@ fn refuses_literals_at_their_bytes(rt: HostRuntime) -> Result<(), Fail> {
 
 #[test]
 fn accepts_terms_of_theories(rt: HostRuntime) -> Result<(), Fail> {
-    let rows: [(&[u8], u32); 6] = [
+    let rows: [(&[u8], u32); 8] = [
         (
             b"(set-logic ALL)(declare-const a Bool)(declare-const x Int)\
             (assert (= x (- 5) (- 7 2 1)))(assert (=> a a a))(assert (distinct x 1 2))",
@@ -378,6 +416,15 @@ fn accepts_terms_of_theories(rt: HostRuntime) -> Result<(), Fail> {
             3,
         ),
         (b"(set-logic QF_UF)(declare-const select Bool)", 2),
+        (
+            b"(set-logic QF_UF)(declare-const p Bool)(assert (let ((q p) (p true)) (and q p)))",
+            3,
+        ),
+        (
+            b"(set-logic ALL)(declare-fun f (Int) Int)\
+            (assert (forall ((x Int)) (! (= (f x) (f x)) :pattern ((f x)) :weight 2)))",
+            3,
+        ),
     ];
     for (text, count) in &rows {
         assert_eq!(rt; answer(&rt, rt.alloc(), text, 0)?, (Ok(()), *count));

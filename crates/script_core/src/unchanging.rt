@@ -3,7 +3,7 @@ ghost use Rattle.std.specs.Prelude.{◌≡◌, IfErr, IfOk};
 ghost use Rattle.cmd_grammar.specs.CommandViews.{command_from};
 ghost use Rattle.term_store.specs.Value.{unplaced_value};
 ghost use Rattle.script_core.specs.Effects.{AnswersUnchanging};
-ghost use Rattle.script_core.specs.Rules.{attribute_value as value_of_attribute};
+ghost use Rattle.typer.specs.TermRules.{attribute_value as value_of_attribute};
 
 use crate::rules::attribute_key;
 use crate::scope::StepError;

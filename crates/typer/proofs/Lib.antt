@@ -20,6 +20,10 @@ pub mod TheoryRankSteps
 pub mod BoundNames
 pub mod HeadSteps
 pub mod TermSteps
+pub mod BoolSorts
+pub mod VariableSteps
+pub mod TermKinds
+pub mod BinderSteps
 pub mod TypedSteps
 pub mod SymbolSteps
 pub mod RankDecisions
@@ -34,4 +38,9 @@ pub mod RankTables
 pub mod TheorySorts
 pub mod SoundTheories
 pub mod SoundApplications
+pub mod DistinctNames
+pub mod SoundBinders
 pub mod SoundTerms
+pub mod AppliedNumbers
+pub mod FreeWalks
+pub mod ClosedTerms

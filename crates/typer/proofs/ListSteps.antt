@@ -18,8 +18,15 @@ Joins {T} {A} {AS} with_first each all =
     (a : A) (rest : AS) (before : List ℕ) (o : Outcome (List T)) → (each a >>= (λ t. all rest >>= (λ ts. done (t ∷ ts)))) before o → all (with_first a rest) before o
 
 -- what the parts that are left have as outcome, all have it with the values so far before it
+abbrev pub Leads : {T : Type 0} → Judging (List T) → Judging (List T) → List T → Type 0
+Leads {T} whole left made = (before : List ℕ) (o : Outcome (List T)) → left before o → whole before (prefixed made o)
+
 abbrev pub Onward : {T AS : Type 0} → (AS → Judging (List T)) → AS → AS → List T → Type 0
-Onward {T} {AS} all whole left made = (before : List ℕ) (o : Outcome (List T)) → all left before o → all whole before (prefixed made o)
+Onward {T} {AS} all whole left made = Leads (all whole) (all left) made
+
+-- a part, and the others after it
+abbrev pub Begins : {T : Type 0} → Judging (List T) → Judging T → Judging (List T) → Type 0
+Begins {T} left each rest = (before : List ℕ) (o : Outcome (List T)) → (each >>= (λ t. rest >>= (λ ts. done (t ∷ ts)))) before o → left before o
 
 module _ {T : Type 0} where
   -- one more value before the others
@@ -34,24 +41,38 @@ module _ {T : Type 0} where
   pub onward_all : {AS : Type 0} (all : AS → Judging (List T)) (whole left : AS) → left ≡ whole → Onward all whole left []
   onward_all all whole left e before o h = subst (all whole before) (sym (prefixed_none o)) (subst (λ z. all z before o) e h)
 
-module _ {T R A AS : Type 0} (value : R → T) (with_first : A → AS → AS) (each : A → Judging T) (all : AS → Judging (List T)) (joins : Joins with_first each all) where
-  first_step : (a : A) (rest : AS) (t : T) (before : List ℕ) (o : Outcome (List T)) → Answers (Ok t) (each a) → all rest before o → all (with_first a rest) before (prefixed (t ∷ []) o)
-  first_step a rest t before (well_sorted us after) h k = joins a rest before (well_sorted (t ∷ us) after) (t, before, h before, (us, after, k, (refl, refl)))
-  first_step a rest t before (ill_sorted place) h k = joins a rest before (ill_sorted place) (inr (t, before, h before, inl k))
+-- a turn of a loop over the parts that are left, by the judgements of all, of those left, of the first and of the others
+module _ {T : Type 0} (whole left : Judging (List T)) (each : Judging T) (rest : Judging (List T)) (made : List T) (begins : Begins left each rest) (leads : Leads whole left made) where
+  begin : (t : T) (before : List ℕ) (o : Outcome (List T)) → Answers (Ok t) each → rest before o → left before (prefixed (t ∷ []) o)
+  begin t before (well_sorted us after) h k = begins before (well_sorted (t ∷ us) after) (t, before, h before, (us, after, k, (refl, refl)))
+  begin t before (ill_sorted place) h k = begins before (ill_sorted place) (inr (t, before, h before, inl k))
 
-  -- a turn of the loop over the parts that are left
+  pub leads_on : (t : T) → Answers (Ok t) each → Leads whole rest (made ++ t ∷ [])
+  leads_on t h before o k = subst (λ z. whole before z) (prefixed_more made t o) (leads before (prefixed (t ∷ []) o) (begin t before o h k))
+
+  pub leads_fault : (e : TyError) → Answers {A = T} (Err e) each → Answers {A = List T} (Err e) whole
+  leads_fault (error.Fault place) h = λ before. leads before (ill_sorted place) (begins before (ill_sorted place) (inl (h before)))
+  leads_fault error.NoMemory h = tt
+
+-- no part is left
+pub leads_end : {T : Type 0} (whole left : Judging (List T)) (made : List T) → ((before : List ℕ) → left before (well_sorted [] before)) → Leads whole left made → Answers (Ok made) whole
+leads_end whole left made none leads before = subst (λ ts. whole before (well_sorted ts before)) (append-nil made) (leads before (well_sorted [] before) (none before))
+
+module _ {T R A AS : Type 0} (value : R → T) (with_first : A → AS → AS) (each : A → Judging T) (all : AS → Judging (List T)) (joins : Joins with_first each all) where
+  -- the same of lists whose parts are judged by one judgement
   module _ (whole left rest : AS) (a : A) (made : List R) (shown : left ≡ with_first a rest) (onward : Onward all whole left (map value made)) where
+    begins_with : Begins (all left) (each a) (all rest)
+    begins_with before o h = subst (λ z. all z before o) (sym shown) (joins a rest before o h)
+
     pub part_step : (next : AS) (new : List R) (r : R) → next ≡ rest → Answers (Ok (value r)) (each a) → new ≡ made ++ r ∷ [] → Onward all whole next (map value new)
-    part_step next new r e h put before o k =
-        let k' : all rest before o = subst (λ z. all z before o) e k in
-        let first = subst (λ z. all z before (prefixed (value r ∷ []) o)) (sym shown) (first_step a rest (value r) before o h k') in
-        subst (λ ts. all whole before (prefixed ts o)) (sym (ap (map value) put ∙ map-append value made (r ∷ [])))
-        (subst (λ z. all whole before z) (prefixed_more (map value made) (value r) o) (onward before (prefixed (value r ∷ []) o) first))
+    part_step next new r e h put =
+        subst (λ z. Onward all whole z (map value new)) (sym e)
+        (subst (Leads (all whole) (all rest)) (sym (ap (map value) put ∙ map-append value made (r ∷ [])))
+        (leads_on (all whole) (all left) (each a) (all rest) (map value made) begins_with onward (value r) h))
 
     pub part_fault : (e : TyError) → Answers {A = T} (Err e) (each a) → Answers {A = List T} (Err e) (all whole)
-    part_fault (error.Fault place) h = λ before. onward before (ill_sorted place) (subst (λ z. all z before (ill_sorted place)) (sym shown) (joins a rest before (ill_sorted place) (inl (h before))))
-    part_fault error.NoMemory h = tt
+    part_fault e h = leads_fault (all whole) (all left) (each a) (all rest) (map value made) begins_with onward e h
 
 pub no_part : {T AS : Type 0} (all : AS → Judging (List T)) (whole left : AS) (made : List T) → ((before : List ℕ) → all left before (well_sorted [] before)) → Onward all whole left made
     → Answers (Ok made) (all whole)
-no_part all whole left made none onward before = subst (λ ts. all whole before (well_sorted ts before)) (append-nil made) (onward before (well_sorted [] before) (none before))
+no_part all whole left made none onward = leads_end (all whole) (all left) made none onward

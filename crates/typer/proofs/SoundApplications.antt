@@ -26,12 +26,13 @@ sorts_of : (us : List PlainTerm) → plain_sorts (plain_terms us) ≡ map plain_
 sorts_of [] = refl
 sorts_of (u ∷ us) = ap (λ ss. plain_sort u ∷ ss) (sorts_of us)
 
+-- a sound term has a sound sort
+pub sort_sound : (script : List Declaration) (outer : Bound) (u : PlainTerm) → IsSoundTerm script outer u → IsSoundSort script 0 (plain_sort u)
+sort_sound script outer (term n s x) h = h.0
+
 sorts_sound : (script : List Declaration) (outer : Bound) (us : List PlainTerm) → AreSoundTerms script outer (plain_terms us) → AreSound script 0 (map plain_sort us)
 sorts_sound script outer [] h = tt
-sorts_sound script outer (u ∷ us) h = (first u h.0, sorts_sound script outer us h.1)
-  where
-    first : (u : PlainTerm) → IsSoundTerm script outer u → IsSoundSort script 0 (plain_sort u)
-    first (term n s x) h = h.0
+sorts_sound script outer (u ∷ us) h = (sort_sound script outer u h.0, sorts_sound script outer us h.1)
 
 module _ (script : List Declaration) (signature : Signature) (sound : IsSoundSignature script signature) where
   -- the name is that of the function symbol, which is sound

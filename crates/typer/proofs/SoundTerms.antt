@@ -1,21 +1,22 @@
 -- What a raw term is well sorted with is sound where the signature and the variables are.
-use Rattle.std.proofs.Common.{◌≡◌, ℕ, ◌==◌, Bool, true, false, if◌then◌else◌, List, [], ◌∷◌, Option, Some, None, refl, sym, subst, ◌∙◌}
+use Rattle.std.proofs.Common.{◌≡◌, ℕ, ◌==◌, Bool, true, false, if◌then◌else◌, List, [], ◌∷◌, ◌++◌, map, Option, Some, None, refl, sym, subst, ◌∙◌}
 use Rattle.std.specs.Option.{IfSome}
 use Rattle.judgement.specs.Judging.{well_sorted}
 use Rattle.term_grammar.specs.Syntax as syntax
-use Rattle.term_grammar.specs.Syntax.{Identifier, symbol, indexed, Qualified, unqualified, qualified, qualified_at, constant, qualified_term, application, let_in, for_all, there_exists, match_with, annotated, Terms, no_terms, with_term}
+use Rattle.term_grammar.specs.Syntax.{Identifier, symbol, indexed, Qualified, unqualified, qualified, qualified_at, constant, qualified_term, application, let_in, for_all, there_exists, match_with, annotated, term_at, Terms, no_terms, with_term, Bindings, no_bindings, with_binding, Notes, no_notes, with_note, Note, named_note, pattern_note, attribute_note}
 use Rattle.sort_store.specs.Tree.{Sort}
 use Rattle.term_store.specs.Term.{PlainTerm, plain_terms}
 use Rattle.term_store.specs.Declarations.{Declaration}
-use Rattle.term_store.specs.SoundTerms.{Bound, bound_also, IsSoundSort, IsTheorySort, AreSoundVars, IsSoundTerm, AreSoundTerms}
+use Rattle.term_store.specs.SoundTerms.{Bound, bound_also, IsSoundSort, IsTheorySort, AreSoundVars, IsSoundTerm, AreSoundTerms, AreSoundNotes, IsSoundNote}
 use Rattle.theory_core.specs.IntsRanks.{int}
 use Rattle.typer.specs.FunctionSymbols.{Signature}
 use Rattle.typer.specs.SortSymbols.{or_else}
-use Rattle.typer.specs.TermRules.{bound, identifier_of, judge_symbol, judge_application, judge_asked, judge_term, judge_terms}
+use Rattle.typer.specs.TermRules.{Binding, PlainNote, bound, bound_sort, identifier_of, judge_symbol, judge_application, judge_asked, judge_bindings, judge_note, judge_notes, judge_term, judge_terms, judge_variables, plain_notes}
 use Rattle.typer.specs.Soundness.{IsSoundSignature}
 use Rattle.typer.proofs.SoundSorts.{sound_sort}
 use Rattle.typer.proofs.SoundVariables.{same_bound}
 use Rattle.typer.proofs.SoundApplications.{head_sound, indexed_head_sound}
+use Rattle.typer.proofs.SoundBinders.{annotation_sound, bindings_sound, let_distinct, let_sound, quantifier_sound, variables_sound, vars_append}
 
 module _ (script : List Declaration) where
   abbrev IsSoundIfSome : Option Sort → Type 0
@@ -60,19 +61,49 @@ module _ (script : List Declaration) (signature : Signature) (vars : List (ℕ �
   application_sound (indexed _ t is) at args asked u before after a k (head, between, j, (made, same)) =
       subst IsSoundHere (sym made) (indexed_head_sound script signature sound outer at args asked a k t.name is head before between j)
 
+module _ (script : List Declaration) (signature : Signature) (sound : IsSoundSignature script signature) where
   mutual
-    pub sound_term : (raw : syntax.Term) (u : PlainTerm) (before after : List ℕ) → judge_term signature vars raw before (well_sorted u after) → IsSoundTerm script (bound_also vars []) u
-    sound_term (constant t) u before after (s, between, (e, f), (made, same)) = subst IsSoundHere (sym made) (literal_sound script _ s e)
-    sound_term (qualified_term q) u before after (asked, between, h, k) = application_sound (identifier_of q) (qualified_at q) [] asked u between after tt (asked_sound q asked before between h) k
-    sound_term (application at q ts) u before after (asked, between, h, (args, later, k, l)) =
-        application_sound (identifier_of q) at args asked u later after (sound_terms ts args between later k) (asked_sound q asked before between h) l
-    sound_term (let_in at bs b) u before after h = absurd h
-    sound_term (for_all at vs b) u before after h = absurd h
-    sound_term (there_exists at vs b) u before after h = absurd h
-    sound_term (match_with at b cs) u before after h = absurd h
-    sound_term (annotated at b ns) u before after h = absurd h
+    pub sound_term : (raw : syntax.Term) (vars : List (ℕ × Sort)) → AreSoundVars script vars → (u : PlainTerm) (before after : List ℕ) → judge_term signature vars raw before (well_sorted u after) → IsSoundTerm script (bound_also vars []) u
+    sound_term (constant t) vars given u before after (s, between, (e, f), (made, same)) = subst (IsSoundTerm script (bound_also vars [])) (sym made) (literal_sound script _ s e)
+    sound_term (qualified_term q) vars given u before after (asked, between, h, k) =
+        application_sound script signature vars sound given (identifier_of q) (qualified_at q) [] asked u between after tt (asked_sound script signature vars sound given q asked before between h) k
+    sound_term (application at q ts) vars given u before after (asked, between, h, (args, later, k, l)) =
+        application_sound script signature vars sound given (identifier_of q) at args asked u later after (sound_terms ts vars given args between later k) (asked_sound script signature vars sound given q asked before between h) l
+    sound_term (let_in at bs b) vars given u before after (cs, between, h, (v, later, k, (made, same))) =
+        let values = sound_bindings bs vars given [] cs before between h in
+        subst (IsSoundTerm script (bound_also vars [])) (sym made)
+        (let_sound script vars cs v (let_distinct script signature vars bs cs before between h) values
+        (sound_term b (vars ++ map bound_sort cs) (vars_append script vars (map bound_sort cs) given (bindings_sound script (bound_also vars []) cs values)) v between later k))
+    sound_term (for_all at vs b) vars given u before after h =
+        quantifier_sound script vars true (term_at b) (judge_variables signature vs) (λ ws. judge_term signature (vars ++ ws) b) u before after (variables_sound script signature sound vs)
+        (λ ws v first second own. sound_term b (vars ++ ws) (vars_append script vars ws given own) v first second) h
+    sound_term (there_exists at vs b) vars given u before after h =
+        quantifier_sound script vars false (term_at b) (judge_variables signature vs) (λ ws. judge_term signature (vars ++ ws) b) u before after (variables_sound script signature sound vs)
+        (λ ws v first second own. sound_term b (vars ++ ws) (vars_append script vars ws given own) v first second) h
+    sound_term (match_with at b cs) vars given u before after h = absurd h
+    sound_term (annotated at b ns) vars given u before after (v, between, h, (ms, later, k, (made, same))) =
+        subst (IsSoundTerm script (bound_also vars [])) (sym made) (annotation_sound script (bound_also vars []) v ms (sound_term b vars given v before between h) (sound_notes ns vars given ms between later k))
 
-    pub sound_terms : (ts : Terms) (us : List PlainTerm) (before after : List ℕ) → judge_terms signature vars ts before (well_sorted us after) → AreSoundTerms script (bound_also vars []) (plain_terms us)
-    sound_terms no_terms us before after (made, same) = subst (λ z. AreSoundTerms script outer (plain_terms z)) (sym made) tt
-    sound_terms (with_term t ts) us before after (u, between, h, (rest, later, k, (made, same))) =
-        subst (λ z. AreSoundTerms script outer (plain_terms z)) (sym made) (sound_term t u before between h, sound_terms ts rest between later k)
+    pub sound_terms : (ts : Terms) (vars : List (ℕ × Sort)) → AreSoundVars script vars → (us : List PlainTerm) (before after : List ℕ) → judge_terms signature vars ts before (well_sorted us after)
+        → AreSoundTerms script (bound_also vars []) (plain_terms us)
+    sound_terms no_terms vars given us before after (made, same) = subst (λ z. AreSoundTerms script (bound_also vars []) (plain_terms z)) (sym made) tt
+    sound_terms (with_term t ts) vars given us before after (u, between, h, (rest, later, k, (made, same))) =
+        subst (λ z. AreSoundTerms script (bound_also vars []) (plain_terms z)) (sym made) (sound_term t vars given u before between h, sound_terms ts vars given rest between later k)
+
+    sound_bindings : (bs : Bindings) (vars : List (ℕ × Sort)) → AreSoundVars script vars → (others : List ℕ) (cs : List Binding) (before after : List ℕ) → judge_bindings signature vars others bs before (well_sorted cs after)
+        → AreSoundTerms script (bound_also vars []) (plain_terms (map (λ (b : Binding). b.1) cs))
+    sound_bindings no_bindings vars given others cs before after (made, same) = subst (λ (z : List Binding). AreSoundTerms script (bound_also vars []) (plain_terms (map (λ (b : Binding). b.1) z))) (sym made) tt
+    sound_bindings (with_binding at x t bs) vars given others cs before after (c, between, (w, start, apart, (v, next, h, (e, f))), (rest, later, k, (made, same))) =
+        subst (λ (z : List Binding). AreSoundTerms script (bound_also vars []) (plain_terms (map (λ (b : Binding). b.1) z))) (sym made)
+        (subst (λ (z : Binding). IsSoundTerm script (bound_also vars []) z.1) (sym e) (sound_term t vars given v start next h), sound_bindings bs vars given (others ++ x.name ∷ []) rest between later k)
+
+    sound_notes : (ns : Notes) (vars : List (ℕ × Sort)) → AreSoundVars script vars → (ms : List PlainNote) (before after : List ℕ) → judge_notes signature vars ns before (well_sorted ms after)
+        → AreSoundNotes script (bound_also vars []) (plain_notes ms)
+    sound_notes no_notes vars given ms before after (made, same) = subst (λ z. AreSoundNotes script (bound_also vars []) (plain_notes z)) (sym made) tt
+    sound_notes (with_note n ns) vars given ms before after (m, between, h, (rest, later, k, (made, same))) =
+        subst (λ z. AreSoundNotes script (bound_also vars []) (plain_notes z)) (sym made) (sound_note n vars given m before between h, sound_notes ns vars given rest between later k)
+
+    sound_note : (n : Note) (vars : List (ℕ × Sort)) → AreSoundVars script vars → (m : PlainNote) (before after : List ℕ) → judge_note signature vars n before (well_sorted m after) → IsSoundNote script (bound_also vars []) m
+    sound_note (named_note t) vars given m before after h = absurd h
+    sound_note (pattern_note ts) vars given m before after (us, between, h, (made, same)) = subst (IsSoundNote script (bound_also vars [])) (sym made) (sound_terms ts vars given us before between h)
+    sound_note (attribute_note a) vars given m before after (made, same) = subst (IsSoundNote script (bound_also vars [])) (sym made) tt

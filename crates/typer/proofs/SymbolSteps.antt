@@ -6,7 +6,7 @@ use Rattle.judgement.specs.Judging.{Judging, done, ◌>>=◌}
 use Rattle.lex_core.specs.declared.token.Tok.{Tok}
 use Rattle.sig_table.specs.declared.code.Code.TheVariants.{AppliedVariable}
 use Rattle.term_grammar.specs.Syntax as syntax
-use Rattle.term_grammar.specs.Syntax.{Identifier, symbol, indexed, Qualified, Terms}
+use Rattle.term_grammar.specs.Syntax.{Identifier, symbol, indexed, Qualified, Terms, Bindings, Notes, Note}
 use Rattle.term_grammar.specs.declared.identifier.RawIdentifierKind.TheVariants as kind
 use Rattle.term_grammar.specs.IdentifierViews.{identifier_kind}
 use Rattle.sort_store.specs.Tree.{Sort, NumberedSort}
@@ -24,7 +24,7 @@ use Rattle.typer.specs.declared.world.World.{World}
 use Rattle.typer.specs.Answers.{Answers, head_answer, typed_answer}
 use Rattle.typer.specs.FunctionSymbols.{Signature, signature_of}
 use Rattle.typer.specs.SortSymbols.{or_else}
-use Rattle.typer.specs.TermRules.{apply_head, bound, identifier_of, judge_application, judge_asked, judge_head, judge_indexed_head, judge_indexed_symbol, judge_symbol, judge_term, judge_terms, judge_variable}
+use Rattle.typer.specs.TermRules.{Binding, PlainNote, apply_head, bound, identifier_of, judge_application, judge_asked, judge_bindings, judge_head, judge_indexed_head, judge_indexed_symbol, judge_note, judge_notes, judge_symbol, judge_term, judge_terms, judge_variable}
 use Rattle.typer.specs.Typed.{AreBound, HasGrown}
 use Rattle.typer.proofs.RankAnswers.{fault_at}
 use Rattle.typer.proofs.TermSteps.{first_is, first_fails}
@@ -146,6 +146,20 @@ term_moved old new vars t r g h = subst (λ z. Answers r (judge_term z vars t)) 
 
 pub terms_moved : (old new : World) (vars : List (ℕ × Sort)) (ts : Terms) (r : Result (List PlainTerm) TyError) → HasGrown old new → Answers r (judge_terms (signature_of new) vars ts) → Answers r (judge_terms (signature_of old) vars ts)
 terms_moved old new vars ts r g h = subst (λ z. Answers r (judge_terms z vars ts)) (same_signature old new g) h
+
+pub bindings_moved : (old new : World) (vars : List (ℕ × Sort)) (others : List ℕ) (bs : Bindings) (r : Result (List Binding) TyError) → HasGrown old new → Answers r (judge_bindings (signature_of new) vars others bs)
+    → Answers r (judge_bindings (signature_of old) vars others bs)
+bindings_moved old new vars others bs r g h = subst (λ z. Answers r (judge_bindings z vars others bs)) (same_signature old new g) h
+
+pub note_moved : (old new : World) (vars : List (ℕ × Sort)) (n : Note) (r : Result PlainNote TyError) → HasGrown old new → Answers r (judge_note (signature_of new) vars n) → Answers r (judge_note (signature_of old) vars n)
+note_moved old new vars n r g h = subst (λ z. Answers r (judge_note z vars n)) (same_signature old new g) h
+
+pub notes_moved : (old new : World) (vars : List (ℕ × Sort)) (ns : Notes) (r : Result (List PlainNote) TyError) → HasGrown old new → Answers r (judge_notes (signature_of new) vars ns) → Answers r (judge_notes (signature_of old) vars ns)
+notes_moved old new vars ns r g h = subst (λ z. Answers r (judge_notes z vars ns)) (same_signature old new g) h
+
+-- the body of a binder, with the variables as the code has them
+pub body_moved : (old new : World) (vars inner : List (ℕ × Sort)) (t : syntax.Term) (r : Result PlainTerm TyError) → HasGrown old new → inner ≡ vars → Answers r (judge_term (signature_of new) inner t) → Answers r (judge_term (signature_of old) vars t)
+body_moved old new vars inner t r g e h = term_moved old new vars t r g (subst (λ z. Answers r (judge_term (signature_of new) z t)) e h)
 
 -- a head with its arguments
 module _ (signature : Signature) (vars : List (ℕ × Sort)) (at : ℕ) (q : Qualified) (ts : Terms) (asked : Option Sort) where

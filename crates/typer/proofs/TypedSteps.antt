@@ -6,17 +6,19 @@ use Rattle.sort_store.specs.Tree.{Sort, NumberedSort}
 use Rattle.sort_store.specs.Tree as sort_tree
 use Rattle.sort_store.specs.Interned as sorts
 use Rattle.sort_store.proofs.GrownStores as sort_stores
-use Rattle.term_store.specs.NumberedNodes.{term_of}
+use Rattle.term_store.specs.NumberedNodes.{numbered_note, numbered_notes, term_of}
+use Rattle.term_store.specs.declared.term.Note.{Note}
 use Rattle.term_store.specs.declared.term.TermNode.{TermNode}
-use Rattle.term_store.specs.Term.{NumberedTerm, PlainTerm, tree, plain_sort}
+use Rattle.term_store.specs.Term.{Notes, NumberedTerm, PlainTerm, tree, plain_sort}
 use Rattle.term_store.specs.Interned as terms
 use Rattle.term_store.proofs.InternedTerms as term_stores
+use Rattle.typer.specs.declared.typed.TypedBinding.{TypedBinding}
 use Rattle.typer.specs.declared.typed.TypedTerm.{TypedTerm}
 use Rattle.typer.specs.declared.typed.TypedTerms.{TypedTerms}
 use Rattle.typer.specs.declared.world.World.{World}
 use Rattle.typer.specs.FunctionSymbols.{signature_of}
 use Rattle.typer.specs.Ready.{IsReady}
-use Rattle.typer.specs.Typed.{AreBound, AreTyped, HasGrown, IsTyped}
+use Rattle.typer.specs.Typed.{AreBound, AreTyped, AreTypedBindings, HasGrown, IsTyped, bound_variable}
 use Rattle.typer.proofs.ReadyKept.{ready_kept}
 
 abbrev with_stores : List Sort → List PlainTerm → World → World
@@ -70,6 +72,39 @@ module _ (old new : World) (grown : HasGrown old new) where
     sorts = sort_stores.all_interned_grown old.sorts new.sorts ts.sorts.items grown.sorts h.sorts;
     same = h.same;
   }
+
+  pub bindings_grown : (bs : List TypedBinding) → AreTypedBindings old bs → AreTypedBindings new bs
+  bindings_grown [] h = tt
+  bindings_grown (b ∷ bs) h = (typed_grown b.value h.0, bindings_grown bs h.1)
+
+  pub notes_grown : (ns : Notes ℕ NumberedSort) → terms.AreNotesInterned old.terms ns → terms.AreNotesInterned new.terms ns
+  notes_grown ns h = subst (λ z. terms.AreNotesInterned z ns) (sym grown.terms.1) (term_stores.notes_interned_append old.terms grown.terms.0 ns h)
+
+-- one more binding or attribute
+pub bindings_push : (world : World) (bs : List TypedBinding) (b : TypedBinding) → AreTypedBindings world bs → IsTyped world b.value → AreTypedBindings world (bs ++ b ∷ [])
+bindings_push world [] b h k = (k, tt)
+bindings_push world (c ∷ bs) b h k = (h.0, bindings_push world bs b h.1 k)
+
+pub notes_push : (store : List PlainTerm) (ns : List Note) (n : Note) → terms.AreNotesInterned store (numbered_notes ns) → terms.IsNoteInterned store (numbered_note n) → terms.AreNotesInterned store (numbered_notes (ns ++ n ∷ []))
+notes_push store [] n h k = (k, tt)
+notes_push store (m ∷ ns) n h k = (h.0, notes_push store ns n h.1 k)
+
+-- variables inside others
+pub bound_append : (world : World) (vs ws : List (ℕ × NumberedSort)) → AreBound world vs → AreBound world ws → AreBound world (vs ++ ws)
+bound_append world [] ws h k = k
+bound_append world (v ∷ vs) ws h k = (h.0, bound_append world vs ws h.1 k)
+
+pub bound_push : (world : World) (vs : List (ℕ × NumberedSort)) (v : ℕ × NumberedSort) → AreBound world vs → sorts.IsInterned world.sorts v.1 → AreBound world (vs ++ v ∷ [])
+bound_push world vs v h k = bound_append world vs (v ∷ []) h (k, tt)
+
+pub bindings_bound : (world : World) (bs : List TypedBinding) → AreTypedBindings world bs → AreBound world (map bound_variable bs)
+bindings_bound world [] h = tt
+bindings_bound world (b ∷ bs) h = (h.0.sort, bindings_bound world bs h.1)
+
+-- the terms of the bindings
+pub bindings_interned : (world : World) (bs : List TypedBinding) → AreTypedBindings world bs → terms.AllInterned world.terms (map (λ b. b.value.term) bs)
+bindings_interned world [] h = tt
+bindings_interned world (b ∷ bs) h = (h.0.term, bindings_interned world bs h.1)
 
 -- no terms, and one more
 pub none_typed : (world : World) (ts : TypedTerms) → ts.terms.items ≡ [] → ts.sorts.items ≡ [] → AreTyped world ts

@@ -10,11 +10,15 @@ use Rattle.sort_store.specs.declared.error.SortError.TheVariants as store
 use Rattle.typer.specs.declared.error.TyError.{TyError}
 use Rattle.typer.specs.declared.error.TyError.TheVariants as error
 use Rattle.term_store.specs.declared.parts.Applied.{Applied}
-use Rattle.term_store.specs.Term.{NumberedTerm, PlainTerm}
+use Rattle.term_store.specs.Term.{NumberedTerm, PlainTerm, plain_var}
 use Rattle.term_store.specs.Term as terms
 use Rattle.typer.specs.declared.head.TypedHead.{TypedHead}
 use Rattle.typer.specs.declared.typed.TypedTerm.{TypedTerm}
 use Rattle.typer.specs.declared.typed.TypedTerms.{TypedTerms}
+use Rattle.typer.specs.declared.typed.TypedBinding.{TypedBinding}
+use Rattle.term_store.specs.declared.term.Note.{Note}
+use Rattle.typer.specs.TermRules.{Binding, PlainNote}
+use Rattle.typer.specs.Typed.{binding_tree, plain_note}
 
 -- Ok has the value that the thing is well sorted with, a fault has the place, and want of memory says nothing. The names
 -- that the command has declared play no part.
@@ -57,3 +61,23 @@ head_answer (Err e) = Err e
 abbrev pub asked_answer : Result (Option NumberedSort) TyError → Result (Option Sort) TyError
 asked_answer (Ok asked) = Ok (option_map tree asked)
 asked_answer (Err e) = Err e
+
+abbrev pub variable_answer : Result (ℕ × NumberedSort) TyError → Result (ℕ × Sort) TyError
+variable_answer (Ok var) = Ok (plain_var var)
+variable_answer (Err e) = Err e
+
+abbrev pub variables_answer : Result (Vec (ℕ × NumberedSort) Global) TyError → Result (List (ℕ × Sort)) TyError
+variables_answer (Ok vars) = Ok (map plain_var vars.items)
+variables_answer (Err e) = Err e
+
+abbrev pub bindings_answer : Result (Vec TypedBinding Global) TyError → Result (List Binding) TyError
+bindings_answer (Ok bindings) = Ok (map binding_tree bindings.items)
+bindings_answer (Err e) = Err e
+
+abbrev pub note_answer : Result Note TyError → Result PlainNote TyError
+note_answer (Ok note) = Ok (plain_note note)
+note_answer (Err e) = Err e
+
+abbrev pub notes_answer : Result (Vec Note Global) TyError → Result (List PlainNote) TyError
+notes_answer (Ok notes) = Ok (map plain_note notes.items)
+notes_answer (Err e) = Err e

@@ -8,5 +8,6 @@ pub mod RankRules
 pub mod LiveRanks
 pub mod FunctionSymbols
 pub mod TermRules
+pub mod FreeVariables
 pub mod Typed
 pub mod Soundness

@@ -1,17 +1,22 @@
 -- The rules on terms (SMT-LIB 2.6, section 3.6): one list of items for each production. A term is judged after its parts,
 -- and these from left to right.
-use Rattle.std.specs.Prelude.{◌≡◌, ℕ, ◌==◌, ◌&&◌, not, IsTrue, if◌then◌else◌, List, [], ◌∷◌, codes, bytes_eq, map, Option, Some, None}
-use Rattle.sig_table.specs.declared.code.Code.TheVariants.{WrongTermForm, LiteralWithoutSort, UnknownFunction, WrongIndex, AppliedVariable}
+use Rattle.std.specs.Prelude.{◌≡◌, ℕ, ◌==◌, ◌&&◌, Bool, true, false, not, IsTrue, if◌then◌else◌, List, [], ◌∷◌, ◌++◌, codes, bytes_eq, map, Option, Some, None}
+use Rattle.std.specs.List.{list_any}
+use Rattle.sig_table.specs.declared.code.Code.TheVariants.{WrongTermForm, WrongTermSort, LiteralWithoutSort, UnknownFunction, WrongIndex, AppliedVariable, RepeatedVariable}
 use Rattle.sig_table.specs.declared.theories.Theories.{Theories}
 use Rattle.lex_core.specs.declared.place.Place.{Place}
 use Rattle.lex_core.specs.declared.token.Tok.{Tok}
 use Rattle.judgement.specs.Judging.{Judging, well_sorted, ill_sorted, done, ◌>>=◌, check, find, refuse}
 use Rattle.term_grammar.specs.Words.{is_numeral}
-use Rattle.term_grammar.specs.Syntax.{Identifier, symbol, indexed, Qualified, unqualified, qualified, qualified_at, constant, qualified_term, application, let_in, for_all, there_exists, match_with, annotated, Terms, no_terms, with_term}
+use Rattle.sexp_core.specs.Sexp.{Sexp}
+use Rattle.term_grammar.specs.Syntax.{Identifier, symbol, indexed, Qualified, unqualified, qualified, qualified_at, SortedSymbol, Attribute, keyword_attribute, valued_attribute, constant, qualified_term, application, let_in, for_all, there_exists, match_with, annotated, term_at, Terms, no_terms, with_term, Bindings, no_bindings, with_binding, Notes, no_notes, with_note, Note, named_note, pattern_note, attribute_note}
 use Rattle.term_grammar.specs.Syntax as syntax
 use Rattle.sort_store.specs.Tree.{Sort}
+use Rattle.sort_store.specs.CoreRanks.{bool}
 use Rattle.theory_core.specs.IntsRanks.{int}
-use Rattle.term_store.specs.Term.{PlainTerm, term, lit, var, app, plain_sort, plain_terms}
+use Rattle.term_store.specs.Term.{PlainTerm, term, lit, var, app, quant, ann, plain_sort, plain_terms}
+use Rattle.term_store.specs.Term as typed
+use Rattle.term_store.specs.Value.{unplaced}
 use Rattle.term_store.specs.declared.parts.Applied.{Applied}
 use Rattle.term_store.specs.declared.parts.Fun.{Fun}
 use Rattle.term_store.specs.declared.parts.Fun.TheVariants as fun
@@ -106,6 +111,67 @@ judge_literal signature t = do
   s ← find (λ s. literal_sort signature.theories t ≡ Some s) LiteralWithoutSort t.at
   done (term tt s (lit t.kind t.name))
 
+-- A variable of a let with its term.
+abbrev pub Binding : Type 0
+Binding = ℕ × PlainTerm
+
+-- what a variable has in the body
+abbrev pub bound_sort : Binding → ℕ × Sort
+bound_sort b = (b.0, plain_sort b.1)
+
+-- a variable that is not repeated, with its term
+abbrev pub judge_binding : Bool → Tok → Judging PlainTerm → Judging Binding
+judge_binding repeated x value = do
+  _ ← check (repeated ≡ false) RepeatedVariable x.at
+  u ← value
+  done (x.name, u)
+
+abbrev pub let_term : List Binding → PlainTerm → PlainTerm
+let_term bs u = term tt (plain_sort u) (typed.let_in (map (λ b. b.0) bs) (plain_terms (map (λ b. b.1) bs)) u)
+
+abbrev pub quantified : Bool → List (ℕ × Sort) → PlainTerm → PlainTerm
+quantified all vs u = term tt bool (quant all vs u)
+
+-- the variables of a quantifier with their sorts; a later one hides an earlier one of its name
+abbrev pub judge_sorted : Signature → ℕ → syntax.Sort → Judging (ℕ × Sort)
+judge_sorted signature name raw = do
+  s ← judge_sort signature.texts signature.declarations signature.theories [] raw
+  done (name, s)
+
+abbrev pub judge_variables : Signature → List SortedSymbol → Judging (List (ℕ × Sort))
+judge_variables signature [] = done []
+judge_variables signature (v ∷ vs) = do
+  w ← judge_sorted signature v.name.name v.sort
+  ws ← judge_variables signature vs
+  done (w ∷ ws)
+
+-- forall, or else exists: the body, which begins at a byte, is of sort Bool where the variables are bound
+abbrev pub judge_quantifier : Bool → ℕ → Judging (List (ℕ × Sort)) → (List (ℕ × Sort) → Judging PlainTerm) → Judging PlainTerm
+judge_quantifier all at variables body = do
+  vs ← variables
+  u ← body vs
+  _ ← check (plain_sort u ≡ bool) WrongTermSort at
+  done (quantified all vs u)
+
+-- an attribute of a term that is kept as it is written
+abbrev pub attribute_key : Attribute → Tok
+attribute_key (keyword_attribute k) = k
+attribute_key (valued_attribute k v) = k
+
+abbrev pub attribute_value : Attribute → Option (Sexp Tok)
+attribute_value (keyword_attribute k) = None
+attribute_value (valued_attribute k v) = Some (unplaced v)
+
+abbrev pub PlainNote : Type 0
+PlainNote = typed.Note (Unit {0}) Sort
+
+abbrev pub plain_notes : List PlainNote → typed.Notes (Unit {0}) Sort
+plain_notes [] = typed.no_notes
+plain_notes (n ∷ ns) = typed.more_notes n (plain_notes ns)
+
+abbrev pub annotated_term : PlainTerm → List PlainNote → PlainTerm
+annotated_term u ns = term tt (plain_sort u) (ann u (plain_notes ns))
+
 -- a term under a signature and the variables that are bound round it, the innermost last
 abbrev mutual
   pub judge_term : Signature → List (ℕ × Sort) → syntax.Term → Judging PlainTerm
@@ -115,11 +181,17 @@ abbrev mutual
     asked ← judge_asked signature q
     args ← judge_terms signature vars ts
     judge_application signature vars at args asked (identifier_of q)
-  judge_term signature vars (let_in at bs u) = refuse WrongTermForm at
-  judge_term signature vars (for_all at vs u) = refuse WrongTermForm at
-  judge_term signature vars (there_exists at vs u) = refuse WrongTermForm at
+  judge_term signature vars (let_in at bs u) = do
+    cs ← judge_bindings signature vars [] bs
+    v ← judge_term signature (vars ++ map bound_sort cs) u
+    done (let_term cs v)
+  judge_term signature vars (for_all at vs u) = judge_quantifier true (term_at u) (judge_variables signature vs) (λ ws. judge_term signature (vars ++ ws) u)
+  judge_term signature vars (there_exists at vs u) = judge_quantifier false (term_at u) (judge_variables signature vs) (λ ws. judge_term signature (vars ++ ws) u)
   judge_term signature vars (match_with at u cs) = refuse WrongTermForm at
-  judge_term signature vars (annotated at u ns) = refuse WrongTermForm at
+  judge_term signature vars (annotated at u ns) = do
+    v ← judge_term signature vars u
+    ms ← judge_notes signature vars ns
+    done (annotated_term v ms)
 
   pub judge_terms : Signature → List (ℕ × Sort) → Terms → Judging (List PlainTerm)
   judge_terms signature vars no_terms = done []
@@ -127,6 +199,29 @@ abbrev mutual
     u ← judge_term signature vars t
     us ← judge_terms signature vars ts
     done (u ∷ us)
+
+  -- Bindings after those of other variables: no variable is repeated, and each term stands in the outer variables.
+  pub judge_bindings : Signature → List (ℕ × Sort) → List ℕ → Bindings → Judging (List Binding)
+  judge_bindings signature vars others no_bindings = done []
+  judge_bindings signature vars others (with_binding at x t bs) = do
+    b ← judge_binding (list_any (λ n. n == x.name) others) x (judge_term signature vars t)
+    cs ← judge_bindings signature vars (others ++ x.name ∷ []) bs
+    done (b ∷ cs)
+
+  -- The terms of a :pattern are judged as terms. Until terms are named, :named is refused.
+  pub judge_notes : Signature → List (ℕ × Sort) → Notes → Judging (List PlainNote)
+  judge_notes signature vars no_notes = done []
+  judge_notes signature vars (with_note n ns) = do
+    m ← judge_note signature vars n
+    ms ← judge_notes signature vars ns
+    done (m ∷ ms)
+
+  pub judge_note : Signature → List (ℕ × Sort) → Note → Judging PlainNote
+  judge_note signature vars (named_note t) = refuse WrongTermForm t.at
+  judge_note signature vars (pattern_note ts) = do
+    us ← judge_terms signature vars ts
+    done (typed.pattern (plain_terms us))
+  judge_note signature vars (attribute_note a) = done (typed.other (attribute_key a).name (attribute_value a))
 
 -- The term is well sorted and this is its typed term, whatever names the command has declared so far; it declares none.
 abbrev pub Elaborates : Signature → List (ℕ × Sort) → syntax.Term → PlainTerm → Type 0

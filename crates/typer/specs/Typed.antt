@@ -1,13 +1,17 @@
 -- Typed terms with their sorts, and what a world keeps as it makes them.
-use Rattle.std.specs.Prelude.{◌≡◌, ℕ, List, map}
+use Rattle.std.specs.Prelude.{◌≡◌, ℕ, List, [], ◌∷◌, map}
 use Rattle.sort_store.specs.Tree.{NumberedSort}
 use Rattle.sort_store.specs.Tree as sort_tree
 use Rattle.sort_store.specs.Interned as sorts
-use Rattle.term_store.specs.Term.{tree, plain_sort}
+use Rattle.term_store.specs.declared.term.Note.{Note}
+use Rattle.term_store.specs.NumberedNodes.{numbered_note}
+use Rattle.term_store.specs.Term.{tree, note_tree, plain_sort}
 use Rattle.term_store.specs.Interned as terms
 use Rattle.typer.specs.declared.world.World.{World}
 use Rattle.typer.specs.declared.typed.TypedTerm.{TypedTerm}
 use Rattle.typer.specs.declared.typed.TypedTerms.{TypedTerms}
+use Rattle.typer.specs.declared.typed.TypedBinding.{TypedBinding}
+use Rattle.typer.specs.TermRules.{Binding, PlainNote}
 
 -- the world's stores made the term and the sort, which is the term's
 pub record IsTyped (world : World) (typed : TypedTerm) : Type 0 where
@@ -29,3 +33,18 @@ pub record HasGrown (old new : World) : Type 0 where
   pub sorts : sorts.Grows old.sorts new.sorts
   pub terms : terms.Grows old.terms new.terms
   pub others : new ≡ record old { sorts = new.sorts; terms = new.terms }
+
+-- a variable of a let: with the tree of its term, and with the sort that it has in the body
+abbrev pub binding_tree : TypedBinding → Binding
+binding_tree b = (b.name, tree b.value.term)
+
+abbrev pub bound_variable : TypedBinding → ℕ × NumberedSort
+bound_variable b = (b.name, b.value.sort)
+
+abbrev pub AreTypedBindings : World → List TypedBinding → Type 0
+AreTypedBindings world [] = Unit {0}
+AreTypedBindings world (b ∷ bs) = IsTyped world b.value × AreTypedBindings world bs
+
+-- an attribute by its trees
+abbrev pub plain_note : Note → PlainNote
+plain_note n = note_tree (numbered_note n)

@@ -1,16 +1,19 @@
 //! The laws of the rules on sorts and terms.
-ghost use Rattle.std.specs.Prelude.{ℕ, ◌≡◌, ◌⊎◌, List, [], length};
+ghost use Rattle.std.specs.Prelude.{false, ℕ, ◌≡◌, ◌⊎◌, ◌<◌, List, [], length};
+ghost use Rattle.std.specs.List.{All};
 ghost use Rattle.lex_core.specs.declared.place.Place.{Place};
 ghost use Rattle.sig_table.specs.declared.theories.Theories.{Theories};
 ghost use Rattle.sort_store.specs.Tree.{Sort};
 ghost use Rattle.judgement.specs.Judging.{well_sorted};
 ghost use Rattle.term_grammar.specs.Syntax as syntax;
 ghost use Rattle.term_store.specs.Declarations.{Declaration, names_in};
-ghost use Rattle.term_store.specs.SoundTerms.{IsSoundSort, IsSoundTerm, AreSoundVars, bound_also};
-ghost use Rattle.typer.specs.Declarations.{Declarations};
+ghost use Rattle.scope_stack.specs.Levels.{live};
+ghost use Rattle.term_store.specs.SoundTerms.{AppliesBelow, IsSoundSort, IsSoundTerm, AreSoundVars, Bound, bound_also};
+ghost use Rattle.typer.specs.Declarations.{Declarations, FunDeclaration};
 ghost use Rattle.typer.specs.SortRules.{SortOf, SortFault, judge_sort};
 ghost use Rattle.typer.specs.Soundness.{HasSoundSorts, IsSoundSignature};
 ghost use Rattle.term_store.specs.Term.{PlainTerm};
+ghost use Rattle.typer.specs.FreeVariables.{has_free};
 ghost use Rattle.typer.specs.FunctionSymbols.{Signature};
 ghost use Rattle.typer.specs.TermRules.{Elaborates, TermFault, judge_term};
 
@@ -42,7 +45,7 @@ pub fn term_laws()
 
 /// The laws of soundness: under the declarations of a script, where the live sort symbols are sound, each
 /// sort that the rules give is sound, and where the signature and the variables are, each term is. A term
-/// names no term. It computes nothing: its contract states them.
+/// names no term, and applies only functions with numbers below each bound that all live functions are below. It computes nothing: its contract states them.
 pub fn soundness_laws()
     ensures sorts { (script : List Declaration) (texts : List (List ℕ)) (declarations : Declarations) (theories : Theories) (params : List ℕ)
         → HasSoundSorts script declarations → (raw : syntax.Sort) (t : Sort) (before after : List ℕ)
@@ -52,4 +55,13 @@ pub fn soundness_laws()
         → judge_term signature vars raw before (well_sorted t after) → IsSoundTerm script (bound_also vars []) t }
     ensures names { (signature : Signature) (vars : List (ℕ × Sort)) (raw : syntax.Term) (t : PlainTerm) (before after : List ℕ)
         → judge_term signature vars raw before (well_sorted t after) → names_in t ≡ [] }
+    ensures lower { (n : ℕ) (signature : Signature) → All (λ (d : ℕ × FunDeclaration). d.1.number.0 < n) (live signature.declarations.funs)
+        → (vars : List (ℕ × Sort)) (raw : syntax.Term) (t : PlainTerm) (before after : List ℕ)
+        → judge_term signature vars raw before (well_sorted t after) → AppliesBelow n t }
+{}
+
+/// The law of free variables: a sound term in which no variable stands free is sound whatever variables are bound round it. It
+/// computes nothing: its contract states it.
+pub fn closed_terms()
+    ensures { (script : List Declaration) (t : PlainTerm) (inner outer : Bound) → has_free [] t ≡ false → IsSoundTerm script inner t → IsSoundTerm script outer t }
 {}

@@ -2,12 +2,15 @@
 #![tactic(auto)]
 
 mod apply;
+mod binders;
 mod error;
+mod free;
 mod head;
 mod in_use;
 mod laws;
 mod live;
 mod made;
+mod notes;
 mod numeral;
 mod sorts;
 mod symbol;
@@ -16,9 +19,11 @@ mod theory;
 mod typed;
 mod world;
 
+pub use binders::is_bool;
 pub use error::TyError;
+pub use free::has_free_variable;
 pub use in_use::{is_fun_in_use, is_sort_in_use};
-pub use laws::{sort_laws, soundness_laws, term_laws};
+pub use laws::{closed_terms, sort_laws, soundness_laws, term_laws};
 pub use numeral::numeral_value;
 pub use sorts::{type_sort, type_sorts};
 pub use symbol::is_theory_sort;

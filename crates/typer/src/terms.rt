@@ -1,33 +1,40 @@
 //! The typed terms of terms.
-ghost use Rattle.std.specs.Prelude.{◌≡◌, ◌↔◌, [], IfErr, IfOk, IfSome, IsTrue, None, map, option_map};
+ghost use Rattle.std.specs.Prelude.{◌≡◌, ◌↔◌, ◌==◌, ◌++◌, ℕ, [], IfErr, IfOk, IfSome, IsTrue, None, map, option_map};
+ghost use Rattle.std.specs.List.{list_any};
 ghost use Rattle.std.specs.Option.{option_copied};
 ghost use Rattle.sort_store.specs.Interned as sorts;
 ghost use Rattle.sort_store.specs.Tree as sort_tree;
 ghost use Rattle.term_store.specs.Interned as terms;
+ghost use Rattle.term_store.specs.Interned.{AreNotesInterned, IsNoteInterned};
+ghost use Rattle.term_store.specs.NumberedNodes.{numbered_note, numbered_notes};
 ghost use Rattle.term_grammar.specs.Syntax as syntax;
-ghost use Rattle.term_grammar.specs.Syntax.{qualified_at};
+ghost use Rattle.term_grammar.specs.Syntax.{qualified_at, term_at};
 ghost use Rattle.term_store.specs.Term.{plain_var, tree};
-ghost use Rattle.typer.specs.Answers.{Answers, asked_answer, term_answer, typed_answer, typed_answers};
+ghost use Rattle.typer.specs.Answers.{Answers, asked_answer, bindings_answer, note_answer, notes_answer, term_answer, typed_answer, typed_answers};
 ghost use Rattle.typer.specs.FunctionSymbols.{signature_of};
 ghost use Rattle.typer.specs.Ready.{IsReady};
 ghost use Rattle.typer.specs.TermRules as spec;
-ghost use Rattle.typer.specs.TermRules.{apply_head, judge_application, judge_asked, judge_constant, judge_indexed_symbol, judge_literal, judge_symbol, judge_term, judge_terms, judge_variable};
-ghost use Rattle.typer.specs.Typed.{AreBound, AreTyped, HasGrown, IsTyped};
+ghost use Rattle.typer.specs.TermRules.{apply_head, judge_application, judge_asked, judge_bindings, judge_constant, judge_indexed_symbol, judge_literal, judge_note, judge_notes, judge_quantifier, judge_symbol, judge_term, judge_terms, judge_variable, judge_variables};
+ghost use Rattle.typer.specs.Typed.{AreBound, AreTyped, AreTypedBindings, HasGrown, IsTyped};
 
+use crate::binders::{
+    is_bool, new_let, new_quantifier, type_variables, with_bindings, with_variables,
+};
 use crate::error::{TyError, fault};
 use crate::head::{TypedHead, head, indexed_head};
 use crate::made::{constant_sort, copy_of};
+use crate::notes::{new_annotation, other_note};
 use crate::sorts::type_sort;
-use crate::typed::{TypedTerm, TypedTerms, new_term};
+use crate::typed::{TypedBinding, TypedTerm, TypedTerms, new_term};
 use crate::world::World;
 use lex_core::{NameId, Tok};
 use sig_table::Code;
 use sort_store::{Head, SortRef};
 use term_grammar::{
-    RawIdentifier, RawIdentifierKind, RawIndices, RawQualified, RawQualifiedKind, RawTerm,
-    RawTermKind, RawTerms, is_numeral,
+    RawBindings, RawIdentifier, RawIdentifierKind, RawIndices, RawNote, RawNoteKind, RawNotes,
+    RawQualified, RawQualifiedKind, RawTerm, RawTermKind, RawTerms, RawVariables, is_numeral,
 };
-use term_store::{TermNode, TermRef};
+use term_store::{Note, TermNode, TermRef};
 
 // What the last variable of this name has.
 #[tactic(auto, using(crate::proofs::BoundNames::bound_words))]
@@ -283,6 +290,164 @@ fn elaborate_applied(
     application(world, vars, at, args, &asked, &identifier_of(head))
 }
 
+// Whether the variable is one of those bound already.
+fn is_repeated(bindings: &[TypedBinding], name: NameId) -> bool
+    ensures { result ≡ list_any (λ b. b.name == name) bindings.now }
+{
+    bindings.iter().any(|binding| binding.name == name)
+}
+
+// The bindings of a let in order, or the first fault.
+#[cycle(terms)]
+fn elaborate_bindings(
+    world: &mut World,
+    vars: &[(NameId, SortRef)],
+    raws: &RawBindings,
+) -> Result<Vec<TypedBinding>, TyError>
+    requires ready { IsReady world.old }
+    requires vars { AreBound world.old vars.now }
+    ensures answer { Answers (bindings_answer result) (judge_bindings (signature_of world.old) (map plain_var vars.now) [] raws.now) }
+    ensures typed { IfOk result (λ v. AreTypedBindings world.new v.items) }
+    ensures grown { HasGrown world.old world.new }
+    ensures ready { IsReady world.new }
+{
+    let mut bindings = Vec::new(world.alloc);
+    let mut next = raws.split();
+    while let Some((first, rest)) = next {
+        let tok = first.name;
+        let name = tok.name;
+        if is_repeated(&bindings, name) {
+            return Err(fault(Code::RepeatedVariable, tok.at));
+        }
+        let term = first.term;
+        let value = elaborate(world, vars, &term)?;
+        match bindings.push(TypedBinding { name, value }) {
+            Ok(()) => {}
+            Err(_) => return Err(TyError::NoMemory),
+        }
+        next = rest.split();
+    }
+    Ok(bindings)
+}
+
+// A let, whose list begins at some byte.
+#[cycle(terms)]
+fn elaborate_let(
+    world: &mut World,
+    vars: &[(NameId, SortRef)],
+    bindings: &RawBindings,
+    body: &RawTerm,
+) -> Result<TypedTerm, TyError>
+    requires ready { IsReady world.old }
+    requires vars { AreBound world.old vars.now }
+    ensures answer { (at : ℕ) → Answers (typed_answer result) (judge_term (signature_of world.old) (map plain_var vars.now) (syntax.let_in at bindings.now body.now)) }
+    ensures typed { IfOk result (IsTyped world.new) }
+    ensures grown { HasGrown world.old world.new }
+    ensures ready { IsReady world.new }
+{
+    let bindings = elaborate_bindings(world, vars, bindings)?;
+    let inner = with_bindings(world.alloc, vars, &bindings)?;
+    let body = elaborate(world, &inner, body)?;
+    new_let(world, &bindings, body)
+}
+
+// A quantifier over these variables.
+#[cycle(terms)]
+fn elaborate_quantifier(
+    world: &mut World,
+    vars: &[(NameId, SortRef)],
+    all: bool,
+    variables: &RawVariables,
+    body: &RawTerm,
+) -> Result<TypedTerm, TyError>
+    requires ready { IsReady world.old }
+    requires vars { AreBound world.old vars.now }
+    ensures answer { Answers (typed_answer result) (judge_quantifier all (term_at body.now) (judge_variables (signature_of world.old) variables.now)
+        (λ own. judge_term (signature_of world.old) (map plain_var vars.now ++ own) body.now)) }
+    ensures typed { IfOk result (IsTyped world.new) }
+    ensures grown { HasGrown world.old world.new }
+    ensures ready { IsReady world.new }
+{
+    let own = type_variables(world, variables)?;
+    let inner = with_variables(world.alloc, vars, &own)?;
+    let typed = elaborate(world, &inner, body)?;
+    if !is_bool(&typed.sort) {
+        return Err(fault(Code::WrongTermSort, body.at()));
+    }
+    new_quantifier(world, all, own, typed)
+}
+
+// An attribute of a term.
+#[cycle(terms)]
+fn elaborate_note(
+    world: &mut World,
+    vars: &[(NameId, SortRef)],
+    raw: &RawNote,
+) -> Result<Note, TyError>
+    requires ready { IsReady world.old }
+    requires vars { AreBound world.old vars.now }
+    ensures answer { Answers (note_answer result) (judge_note (signature_of world.old) (map plain_var vars.now) raw.now) }
+    ensures interned { IfOk result (λ n. IsNoteInterned world.new.terms (numbered_note n)) }
+    ensures grown { HasGrown world.old world.new }
+    ensures ready { IsReady world.new }
+{
+    match raw.kind() {
+        RawNoteKind::Named { name } => Err(fault(Code::WrongTermForm, name.at)),
+        RawNoteKind::Pattern { terms } => match elaborate_all(world, vars, &terms) {
+            Ok(typed) => Ok(Note::Pattern(typed.terms)),
+            Err(error) => Err(error),
+        },
+        RawNoteKind::Attribute(attribute) => other_note(world.alloc, &attribute),
+    }
+}
+
+// The attributes of a term in order, or the first fault.
+#[cycle(terms)]
+fn elaborate_notes(
+    world: &mut World,
+    vars: &[(NameId, SortRef)],
+    raws: &RawNotes,
+) -> Result<Vec<Note>, TyError>
+    requires ready { IsReady world.old }
+    requires vars { AreBound world.old vars.now }
+    ensures answer { Answers (notes_answer result) (judge_notes (signature_of world.old) (map plain_var vars.now) raws.now) }
+    ensures interned { IfOk result (λ v. AreNotesInterned world.new.terms (numbered_notes v.items)) }
+    ensures grown { HasGrown world.old world.new }
+    ensures ready { IsReady world.new }
+{
+    let mut notes = Vec::new(world.alloc);
+    let mut next = raws.split();
+    while let Some((first, rest)) = next {
+        let note = elaborate_note(world, vars, &first)?;
+        match notes.push(note) {
+            Ok(()) => {}
+            Err(_) => return Err(TyError::NoMemory),
+        }
+        next = rest.split();
+    }
+    Ok(notes)
+}
+
+// A term with attributes, whose list begins at some byte.
+#[cycle(terms)]
+fn elaborate_annotated(
+    world: &mut World,
+    vars: &[(NameId, SortRef)],
+    body: &RawTerm,
+    notes: &RawNotes,
+) -> Result<TypedTerm, TyError>
+    requires ready { IsReady world.old }
+    requires vars { AreBound world.old vars.now }
+    ensures answer { (at : ℕ) → Answers (typed_answer result) (judge_term (signature_of world.old) (map plain_var vars.now) (syntax.annotated at body.now notes.now)) }
+    ensures typed { IfOk result (IsTyped world.new) }
+    ensures grown { HasGrown world.old world.new }
+    ensures ready { IsReady world.new }
+{
+    let body = elaborate(world, vars, body)?;
+    let notes = elaborate_notes(world, vars, notes)?;
+    new_annotation(world, body, notes)
+}
+
 // The typed term of a term, or the first fault.
 #[cycle(terms)]
 fn elaborate(
@@ -302,7 +467,15 @@ fn elaborate(
         RawTermKind::Constant(tok) => literal(world, tok),
         RawTermKind::Qualified(head) => constant(world, vars, at, &head),
         RawTermKind::Application { head, args } => elaborate_applied(world, vars, at, &head, &args),
-        _ => Err(fault(Code::WrongTermForm, at)),
+        RawTermKind::Let { bindings, body } => elaborate_let(world, vars, &bindings, &body),
+        RawTermKind::Forall { variables, body } => elaborate_quantifier(
+            world, vars, true, &variables, &body,
+        ),
+        RawTermKind::Exists { variables, body } => elaborate_quantifier(
+            world, vars, false, &variables, &body,
+        ),
+        RawTermKind::Match { .. } => Err(fault(Code::WrongTermForm, at)),
+        RawTermKind::Annotated { term, notes } => elaborate_annotated(world, vars, &term, &notes),
     }
 }
 

@@ -1,8 +1,8 @@
-//! Sorts and faults, worked by hand from the rules.
+//! Sorts, terms and faults, worked by hand from the rules.
 ghost use Rattle.std.specs.Prelude.{◌≡◌, ◌<◌, ◌+◌, ◌≤◌, ◌^◌, IfOk, IsTrue, length};
 ghost use Rattle.typer.specs.Ready.{IsReady, IsReadySchema, IsReadySortEntry};
 
-use crate::{TyError, World, is_theory_sort, type_sort};
+use crate::{TyError, World, is_theory_sort, type_sort, type_term};
 use lex_core::{NameId, Names, Tok, tokens_of_text};
 use scope_stack::SortEntry;
 use sexp_core::{Builder, Part, Tree, Trees};
@@ -11,7 +11,9 @@ use sort_store::{DeclNo, SortRef};
 use std::alloc::Global;
 use std::process::Abort;
 use std::test::Fail;
-use term_grammar::{RawIdentifier, RawIdentifierKind, RawSort, RawSortKind, read_sort};
+use term_grammar::{
+    RawIdentifier, RawIdentifierKind, RawSort, RawSortKind, RawTerm, read_sort, read_term,
+};
 
 type Row = (&'static [u8], &'static [u8], &'static [u8], u32);
 
@@ -81,6 +83,42 @@ static THEORY_SORTS: [Row; 14] = [
     (b"Array", b"(Array E E)", b"NA-4", 0),
 ];
 
+type TermRow = (&'static [u8], &'static [u8], u32);
+
+// Terms where the logic has Ints, and nothing is declared: the answer is a code and a byte.
+static TERMS: [TermRow; 18] = [
+    // The terms of a let stand in the outer variables, its body in all.
+    (b"(let ((x true) (y false)) (and x y))", b"ok", 0),
+    (b"(let ((x true) (y x)) y)", b"TY-1", 18),
+    (
+        b"(let ((x true)) (let ((x 1) (y x)) (and y (= x 1))))",
+        b"ok",
+        0,
+    ),
+    (b"(let ((x true) (x false)) x)", b"NA-5", 16),
+    (b"(let ((x true) (y (and 1)) (x false)) x)", b"TY-2", 18),
+    // A bound variable hides a function symbol, and takes no argument.
+    (b"(let ((not true)) not)", b"ok", 0),
+    (b"(let ((not true)) (not not))", b"TY-8", 18),
+    (b"(let ((x 1)) (as x Int))", b"TY-8", 13),
+    // A later variable of a quantifier hides an earlier one, and an outer one.
+    (b"(forall ((x Int)) (= x x))", b"ok", 0),
+    (b"(exists ((x Int) (x Bool)) x)", b"ok", 0),
+    (b"(exists ((x Bool) (x Int)) x)", b"TY-6", 27),
+    (b"(let ((x 1)) (forall ((x Bool)) x))", b"ok", 0),
+    (b"(forall ((x Int)) x)", b"TY-6", 18),
+    (b"(exists ((x Foo)) (and 1))", b"NA-3", 12),
+    (b"(not (forall ((x Int)) (and 1)))", b"TY-2", 23),
+    // The terms of a pattern are judged, other attributes are kept.
+    (b"(! (= 1 1) :pattern (1 (+ 1 2)) :weight 3)", b"ok", 0),
+    (b"(! true :weight (and 1) :pattern ((and 1)))", b"TY-2", 34),
+    (
+        b"(forall ((x Int)) (! (= x x) :pattern (x y)))",
+        b"TY-1",
+        41,
+    ),
+];
+
 fn is_named(names: &Names, name: NameId) -> bool
     ensures { IsTrue result → name < length names.now }
 {
@@ -132,6 +170,19 @@ fn sort_in<'t>(tree: &'t Tree) -> Option<RawSort<'t>> {
     };
     let (part, _) = parts.split()?;
     let Ok(raw) = read_sort(part) else {
+        return None;
+    };
+    Some(raw)
+}
+
+// The first tree of a list, as a term.
+fn term_in<'t>(tree: &'t Tree) -> Option<RawTerm<'t>> {
+    let (list, _) = Trees::of(tree).split()?;
+    let Part::List { parts, .. } = list else {
+        return None;
+    };
+    let (part, _) = parts.split()?;
+    let Ok(raw) = read_term(part) else {
         return None;
     };
     Some(raw)
@@ -292,6 +343,41 @@ fn compare(rt: &impl Abort, state: &mut World, rows: &[Row]) -> Result<(), Fail>
         assert!(rt; got == *word && at == *number, "{text:?}");
     }
     Ok(())
+}
+
+// The answer of a term, with no variables round it.
+fn term_row(rt: &impl Abort, world: &mut World, text: &[u8]) -> Result<(&'static [u8], u32), Fail>
+    requires { IsReady world.old }
+    ensures { IsReady world.new }
+{
+    let tree = tree_of(rt, world, text)?.expect(rt, "a list");
+    let raw = term_in(&tree).expect(rt, "a term");
+    match type_term(world, &[], raw) {
+        Ok(_) => Ok((b"ok", 0)),
+        Err(TyError::Fault(place)) => Ok((place.code.text(), place.at.wrapping_sub(1))),
+        Err(TyError::NoMemory) => Ok((b"no memory", 0)),
+    }
+}
+
+fn compare_terms(rt: &impl Abort, state: &mut World, rows: &[TermRow]) -> Result<(), Fail>
+    requires { IsReady state.old }
+{
+    for (text, word, number) in rows {
+        let (got, at) = term_row(rt, state, text)?;
+        assert!(rt; got == *word && at == *number, "{text:?}");
+    }
+    Ok(())
+}
+
+#[test]
+fn terms_of_ints(rt: HostRuntime) -> Result<(), Fail> {
+    let theories = Theories {
+        ints: true,
+        arrays: false,
+        bits: false,
+    };
+    let mut world = world_of(&rt, rt.alloc(), theories)?;
+    compare_terms(&rt, &mut world, &TERMS)
 }
 
 #[test]

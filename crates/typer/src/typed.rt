@@ -10,6 +10,7 @@ ghost use Rattle.typer.specs.Typed.{AreTyped, HasGrown, IsTyped};
 use crate::error::TyError;
 use crate::made::copy_of;
 use crate::world::World;
+use lex_core::NameId;
 use sort_store::SortRef;
 use std::alloc::Global;
 use term_store::{TermNode, TermRef};
@@ -26,6 +27,13 @@ pub(crate) struct TypedTerm {
 pub(crate) struct TypedTerms {
     pub terms: Vec<TermRef>,
     pub sorts: Vec<SortRef>,
+}
+
+/// A variable of a let with its typed term.
+#[derive(Drop)]
+pub(crate) struct TypedBinding {
+    pub name: NameId,
+    pub value: TypedTerm,
 }
 
 /// The term with this node and this sort.

@@ -1,11 +1,14 @@
-use Rattle.std.proofs.Common.{◌≤◌, suc, map}
+use Rattle.std.proofs.Common.{◌≤◌, ◌+◌, suc, map, []}
 use Rattle.term_store.specs.Term.{plain_var, tree}
 use Rattle.typer.specs.FunctionSymbols.{signature_of}
 use Rattle.typer.specs.Ready.{IsReady}
-use Rattle.typer.specs.TermRules.{judge_terms}
-use Rattle.typer.specs.Typed.{AreTyped, HasGrown}
-use Rattle.typer.proofs.ListSteps.{Onward}
-use Rattle.typer.proofs.TermSteps.{size, sizes, left}
+use Rattle.term_store.specs.Interned.{AreNotesInterned}
+use Rattle.term_store.specs.NumberedNodes.{numbered_notes}
+use Rattle.typer.specs.declared.typed.TypedBinding.{TypedBinding}
+use Rattle.typer.specs.TermRules.{judge_bindings, judge_notes, judge_terms}
+use Rattle.typer.specs.Typed.{AreTyped, AreTypedBindings, HasGrown, binding_tree, plain_note}
+use Rattle.typer.proofs.ListSteps.{Leads, Onward}
+use Rattle.typer.proofs.TermSteps.{size, sizes, bindings_size, notes_size, note_size, left, bindings_left, notes_left}
 use Rattle.typer.proofs.terms.+terms.Given as goal
 
 abbrev pub decreases-elaborate : goal.decreases-elaborate
@@ -28,3 +31,46 @@ invariant-elaborate_all-loop-next l = record {
 
 abbrev pub decreases-elaborate_all-loop-next : goal.decreases-elaborate_all-loop-next
 decreases-elaborate_all-loop-next l = sizes (left l.next)
+
+abbrev pub decreases-elaborate_let : goal.decreases-elaborate_let
+decreases-elaborate_let l = suc (bindings_size l.bindings.now + size l.body.now)
+
+abbrev pub decreases-elaborate_quantifier : goal.decreases-elaborate_quantifier
+decreases-elaborate_quantifier l = suc (size l.body.now)
+
+abbrev pub decreases-elaborate_annotated : goal.decreases-elaborate_annotated
+decreases-elaborate_annotated l = suc (size l.body.now + notes_size l.notes.now)
+
+abbrev pub decreases-elaborate_bindings : goal.decreases-elaborate_bindings
+decreases-elaborate_bindings l = bindings_size l.raws.now
+
+abbrev pub decreases-elaborate_notes : goal.decreases-elaborate_notes
+decreases-elaborate_notes l = notes_size l.raws.now
+
+abbrev pub decreases-elaborate_note : goal.decreases-elaborate_note
+decreases-elaborate_note l = note_size l.raw.now
+
+abbrev pub invariant-elaborate_bindings-loop-next : goal.invariant-elaborate_bindings-loop-next
+invariant-elaborate_bindings-loop-next l = record {
+  onward : Leads (judge_bindings (signature_of l.fn.world) (map plain_var l.vars) [] l.raws)
+      (judge_bindings (signature_of l.fn.world) (map plain_var l.vars) (map (λ (b : TypedBinding). b.name) l.bindings.items) (bindings_left l.next)) (map binding_tree l.bindings.items);
+  typed : AreTypedBindings l.world l.bindings.items;
+  grown : HasGrown l.fn.world l.world;
+  ready : IsReady l.world;
+  smaller : bindings_size (bindings_left l.next) ≤ bindings_size l.raws;
+}
+
+abbrev pub decreases-elaborate_bindings-loop-next : goal.decreases-elaborate_bindings-loop-next
+decreases-elaborate_bindings-loop-next l = bindings_size (bindings_left l.next)
+
+abbrev pub invariant-elaborate_notes-loop-next : goal.invariant-elaborate_notes-loop-next
+invariant-elaborate_notes-loop-next l = record {
+  onward : Onward (judge_notes (signature_of l.fn.world) (map plain_var l.vars)) l.raws (notes_left l.next) (map plain_note l.notes.items);
+  interned : AreNotesInterned l.world.terms (numbered_notes l.notes.items);
+  grown : HasGrown l.fn.world l.world;
+  ready : IsReady l.world;
+  smaller : notes_size (notes_left l.next) ≤ notes_size l.raws;
+}
+
+abbrev pub decreases-elaborate_notes-loop-next : goal.decreases-elaborate_notes-loop-next
+decreases-elaborate_notes-loop-next l = notes_size (notes_left l.next)

@@ -1,0 +1,108 @@
+//! A script keeps the definitions of its commands.
+ghost use Rattle.std.specs.Prelude.{◌≡◌, ◌∷◌, [], IfErr, IfOk, OnErr, OnOk};
+ghost use Rattle.term_store.specs.Definitions.{IsUnused};
+ghost use Rattle.script_core.specs.Keeping.{EachUnused, KeepsPart, definitions_in, with_definitions};
+
+use crate::effects::copy_of;
+use crate::scope::StepError;
+use lex_core::NameId;
+use sort_store::SortRef;
+use std::alloc::Global;
+use term_store::{Def, ListOf, Script, TermRef, TypedCommand};
+
+/// The same variables once more. The only error is that memory runs out.
+pub fn copy_of_vars(
+    alloc: Global,
+    vars: &[(NameId, SortRef)],
+) -> Result<ListOf<(NameId, SortRef)>, StepError>
+    ensures ok { IfOk result (λ list. list ≡ vars.now) }
+    ensures err { IfErr result (λ e. e ≡ StepError.NoMemory) }
+{
+    let mut list: ListOf<(NameId, SortRef)> = ListOf::new(alloc);
+    for var in vars {
+        let copy = copy_of(&var.1)?;
+        match list.push((var.0, copy)) {
+            Ok(()) => {}
+            Err(_) => return Err(StepError::NoMemory),
+        }
+    }
+    Ok(list)
+}
+
+// The same term once more. The only error is that memory runs out.
+fn copy_of_term(term: &TermRef) -> Result<TermRef, StepError>
+    ensures ok { IfOk result (λ t. t ≡ term.now) }
+    ensures err { IfErr result (λ e. e ≡ StepError.NoMemory) }
+{
+    match term.clone() {
+        Ok(term) => Ok(term),
+        Err(_) => Err(StepError::NoMemory),
+    }
+}
+
+// The same definition once more. The only error is that memory runs out.
+fn copy_of_def(alloc: Global, def: &Def) -> Result<Def, StepError>
+    ensures ok { IfOk result (λ d. d ≡ def.now) }
+    ensures err { IfErr result (λ e. e ≡ StepError.NoMemory) }
+{
+    let params = copy_of_vars(alloc, def.params.as_slice())?;
+    let result = copy_of(&def.result)?;
+    let body = copy_of_term(&def.body)?;
+    Ok(Def {
+        no: def.no,
+        name: def.name,
+        params,
+        result,
+        body,
+        recursive: def.recursive,
+    })
+}
+
+// Keeps a definition. The only error is that memory runs out; it leaves the script as it was.
+fn keep(script: &mut Script, def: Def) -> Result<(), StepError>
+    requires { IsUnused script.old.defs def.no }
+    ensures ok { OnOk result (script.new ≡ with_definitions script.old (def ∷ [])) }
+    ensures err { IfErr result (λ e. e ≡ StepError.NoMemory) }
+    ensures left { OnErr result (script.new ≡ script.old) }
+{
+    match script.defs_mut().keep_def(def) {
+        Ok(()) => Ok(()),
+        Err(_) => Err(StepError::NoMemory),
+    }
+}
+
+// Keeps definitions, those before an error too. The only error is that memory runs out.
+fn keep_all(alloc: Global, script: &mut Script, defs: &[Def]) -> Result<(), StepError>
+    requires { EachUnused script.old.defs defs.now }
+    ensures ok { OnOk result (script.new ≡ with_definitions script.old defs.now) }
+    ensures err { IfErr result (λ e. e ≡ StepError.NoMemory) }
+    ensures left { OnErr result (KeepsPart script.old defs.now script.new) }
+{
+    for def in defs {
+        let copy = copy_of_def(alloc, def)?;
+        match keep(script, copy) {
+            Ok(()) => {}
+            Err(error) => return Err(error),
+        }
+    }
+    Ok(())
+}
+
+/// Keeps the definitions of a command, those before an error too. The only error is that memory runs out.
+pub fn keep_definitions(
+    alloc: Global,
+    script: &mut Script,
+    command: &TypedCommand,
+) -> Result<(), StepError>
+    requires { EachUnused script.old.defs (definitions_in command.now) }
+    ensures ok { OnOk result (script.new ≡ with_definitions script.old (definitions_in command.now)) }
+    ensures err { IfErr result (λ e. e ≡ StepError.NoMemory) }
+    ensures left { OnErr result (KeepsPart script.old (definitions_in command.now) script.new) }
+{
+    match command {
+        TypedCommand::DefineFun { def } => keep_all(alloc, script, std::slice::from_ref(def)),
+        TypedCommand::DefineFunRec { def } => keep_all(alloc, script, std::slice::from_ref(def)),
+        TypedCommand::DefineFunsRec { defs } => keep_all(alloc, script, defs.as_slice()),
+        _ => Ok(()),
+    }
+}
