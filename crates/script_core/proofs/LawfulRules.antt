@@ -6,7 +6,7 @@ use Rattle.lex_core.specs.declared.place.Place.{Place}
 use Rattle.lex_core.specs.declared.token.Tok.{Tok}
 use Rattle.sexp_core.specs.Sexp.{Sexp}
 use Rattle.judgement.specs.Judging.{Outcome, Lawful, well_sorted, ill_sorted}
-use Rattle.judgement.proofs.JudgementLaws.{fault_once, lawful-check, lawful-done, lawful-find, lawful-refuse, lawful-then, never_both, option_decided, test_decided, value_once, value_or_fault}
+use Rattle.judgement.proofs.JudgementLaws.{fault_once, lawful-check, lawful-declare, lawful-done, lawful-find, lawful-refuse, lawful-then, never_both, option_decided, test_decided, value_once, value_or_fault}
 use Rattle.term_grammar.specs.Syntax as syntax
 use Rattle.term_grammar.specs.Syntax.{SortedSymbol, Term, constant, qualified_term, application, let_in, for_all, there_exists, match_with, annotated, Terms, no_terms, with_term, Bindings, no_bindings, with_binding, Notes, no_notes, with_note, Note, named_note, pattern_note, attribute_note}
 use Rattle.cmd_grammar.specs.Commands.{Command, FunDec, Literal, assert, check_sat_assuming, declare_const, declare_fun, declare_sort, define_fun, define_fun_rec, define_funs_rec, define_sort, echo, exit, get_info, get_option, get_value, pop, push, reset, reset_assertions, set_info, set_logic, set_option}
@@ -25,9 +25,9 @@ use Rattle.logic_frag.specs.FragmentRules.{DefinesRecursively, HasTerm, IsQuanti
 use Rattle.logic_frag.proofs.FoundParts.{has_quantified}
 use Rattle.script_core.specs.RuleAnswers.{is_quantified}
 use Rattle.term_store.specs.Term.{plain_sort}
-use Rattle.script_core.specs.Environment.{Environment, signature_in}
+use Rattle.script_core.specs.Environment.{Environment, signature_from, signature_in}
 use Rattle.script_core.specs.Numbering.{numbered_sexp}
-use Rattle.script_core.specs.Rules.{Header, has_named, is_built, judge_all_built, judge_bindings_built, judge_body, judge_bool, judge_built, judge_command, judge_form, judge_fragment, judge_header, judge_headers, judge_literals, judge_member, judge_members, judge_mode, judge_note_built, judge_notes_built, judge_params, judge_parts, judge_variable, judge_variables, unchanging, with_header, with_headers}
+use Rattle.script_core.specs.Rules.{Header, declare_each, is_built, judge_all_built, judge_bindings_built, judge_body, judge_bool, judge_built, judge_command, judge_form, judge_fragment, judge_header, judge_headers, judge_literals, judge_member, judge_members, judge_mode, judge_note_built, judge_own, judge_notes_built, judge_params, judge_parts, judge_variable, judge_variables, unchanging, with_header, with_headers}
 use Rattle.script_core.specs.Steps.{ListFault, ListSteps, judge_grammar, judge_list, judge_tree, with_names}
 
 lawful-grammar : (t : Sexp Tok) → Lawful (judge_grammar t)
@@ -57,7 +57,7 @@ mutual
   lawful-built (for_all at vs u) = lawful-built u
   lawful-built (there_exists at vs u) = lawful-built u
   lawful-built (match_with at u cs) = lawful-refuse _ _
-  lawful-built (annotated at u ns) = lawful-then _ _ (lawful-check _ _ _ (is_false (has_named ns))) (λ v. lawful-then _ _ (lawful-built u) (λ w. lawful-notes_built ns))
+  lawful-built (annotated at u ns) = lawful-then _ _ (lawful-built u) (λ w. lawful-notes_built ns)
 
   lawful-all_built : (ts : Terms) → Lawful (judge_all_built ts)
   lawful-all_built no_terms = lawful-done _
@@ -124,20 +124,24 @@ lawful-header : (env : Environment) (n : Tok) (ps : List SortedSymbol) (s : synt
 lawful-header env n ps s =
     lawful-then _ _ (lawful-check _ _ _ (is_false _)) (λ u. lawful-then _ _ (lawful-variables env [] ps) (λ vs. lawful-then _ _ (lawful-sort _ _ _ _ s) (λ r. lawful-done _)))
 
-lawful-body : (env : Environment) (h : Header) (t : Term) → Lawful (judge_body env h t)
-lawful-body env h t = lawful-then _ _ (lawful-term (signature_in env) t h.params) (λ u. lawful-then _ _ (lawful-check _ _ _ (sort_decided (plain_sort u) h.result)) (λ v. lawful-done _))
+lawful-body : (first : ℕ) (env : Environment) (h : Header) (t : Term) → Lawful (judge_body first env h t)
+lawful-body first env h t = lawful-then _ _ (lawful-term (signature_from first env) t h.params) (λ u. lawful-then _ _ (lawful-check _ _ _ (sort_decided (plain_sort u) h.result)) (λ v. lawful-done _))
 
 lawful-headers : (env : Environment) (fs : List FunDec) → Lawful (judge_headers env fs)
 lawful-headers env [] = lawful-done _
 lawful-headers env (f ∷ fs) = lawful-then _ _ (lawful-header env f.name f.params f.result) (λ h. lawful-then _ _ (lawful-headers (with_header env h) fs) (λ hs. lawful-done _))
 
-lawful-member : (env : Environment) (h : Header) (t : Term) → Lawful (judge_member env h t)
-lawful-member env h t = lawful-then _ _ (lawful-body env h t) (λ u. lawful-done _)
+lawful-member : (first : ℕ) (env : Environment) (h : Header) (t : Term) → Lawful (judge_member first env h t)
+lawful-member first env h t = lawful-then _ _ (lawful-body first env h t) (λ u. lawful-done _)
 
-lawful-members : (env : Environment) (at : ℕ) (hs : List Header) (ts : Terms) → Lawful (judge_members env at hs ts)
-lawful-members env at [] ts = lawful-done _
-lawful-members env at (h ∷ hs) no_terms = lawful-refuse _ _
-lawful-members env at (h ∷ hs) (with_term t ts) = lawful-then _ _ (lawful-member env h t) (λ d. lawful-then _ _ (lawful-members env at hs ts) (λ ds. lawful-done _))
+lawful-members : (first : ℕ) (env : Environment) (at : ℕ) (hs : List Header) (ts : Terms) → Lawful (judge_members first env at hs ts)
+lawful-members first env at [] ts = lawful-done _
+lawful-members first env at (h ∷ hs) no_terms = lawful-refuse _ _
+lawful-members first env at (h ∷ hs) (with_term t ts) = lawful-then _ _ (lawful-member first env h t) (λ d. lawful-then _ _ (lawful-members first env at hs ts) (λ ds. lawful-done _))
+
+lawful-declare_each : (ns : List ℕ) → Lawful (declare_each ns)
+lawful-declare_each [] = lawful-done _
+lawful-declare_each (n ∷ ns) = lawful-then _ _ (lawful-declare n) (λ u. lawful-declare_each ns)
 
 lawful-parts : (env : Environment) (at : ℕ) (c : Command) → Lawful (judge_parts env at c)
 lawful-parts env at (assert t) = lawful-then _ _ (lawful-bool env t) (λ u. lawful-done _)
@@ -150,9 +154,9 @@ lawful-parts env at (declare_sort n a) =
     lawful-then _ _ (lawful-check _ _ _ (is_false _)) (λ u. lawful-then _ _ (lawful-check _ _ _ (at_most _ _)) (λ v. lawful-done _))
 lawful-parts env at (define_sort n ps s) =
     lawful-then _ _ (lawful-check _ _ _ (is_false _)) (λ u. lawful-then _ _ (lawful-params [] ps) (λ v. lawful-then _ _ (lawful-sort _ _ _ _ s) (λ body. lawful-done _)))
-lawful-parts env at (define_fun f) = lawful-then _ _ (lawful-header env f.name f.params f.result) (λ h. lawful-then _ _ (lawful-body env h f.body) (λ u. lawful-done _))
-lawful-parts env at (define_fun_rec f) = lawful-then _ _ (lawful-header env f.name f.params f.result) (λ h. lawful-then _ _ (lawful-body (with_header env h) h f.body) (λ u. lawful-done _))
-lawful-parts env at (define_funs_rec fs ts) = lawful-then _ _ (lawful-headers env fs) (λ hs. lawful-then _ _ (lawful-members (with_headers env hs) at hs ts) (λ ds. lawful-done _))
+lawful-parts env at (define_fun f) = lawful-then _ _ (lawful-header env f.name f.params f.result) (λ h. lawful-then _ _ (lawful-declare h.name) (λ v. lawful-then _ _ (lawful-body env.next env h f.body) (λ u. lawful-done _)))
+lawful-parts env at (define_fun_rec f) = lawful-then _ _ (lawful-header env f.name f.params f.result) (λ h. lawful-then _ _ (lawful-declare h.name) (λ v. lawful-then _ _ (lawful-body env.next (with_header env h) h f.body) (λ u. lawful-done _)))
+lawful-parts env at (define_funs_rec fs ts) = lawful-then _ _ (lawful-headers env fs) (λ hs. lawful-then _ _ (lawful-declare_each _) (λ v. lawful-then _ _ (lawful-members env.next (with_headers env hs) at hs ts) (λ ds. lawful-done _)))
 lawful-parts env at (get_value ts) = lawful-then _ _ (lawful-terms (signature_in env) ts []) (λ us. lawful-done _)
 lawful-parts env at (set_logic n) = lawful-done _
 lawful-parts env at (set_option a) = lawful-done _
@@ -179,9 +183,12 @@ recursion_decided c false = inl (λ h. absurd h)
 lawful-fragment : (env : Environment) (at : ℕ) (c : PlainCommand) → Lawful (judge_fragment env at c)
 lawful-fragment env at c = lawful-then _ _ (lawful-check _ _ _ (quantifier_decided c env.theories.ints)) (λ u. lawful-check _ _ _ (recursion_decided c env.theories.ints))
 
-lawful-command : (env : Environment) (at : ℕ) (c : Command) → Lawful (judge_command env at c)
-lawful-command env at c = lawful-then _ _ (lawful-form at c)
+lawful-own : (env : Environment) (at : ℕ) (c : Command) → Lawful (judge_own env at c)
+lawful-own env at c = lawful-then _ _ (lawful-form at c)
     (λ u. lawful-then _ _ (lawful-mode env at c) (λ v. lawful-then _ _ (lawful-parts env at c) (λ made. lawful-then _ _ (lawful-fragment env at made.0) (λ w. lawful-done _))))
+
+lawful-command : (env : Environment) (at : ℕ) (c : Command) → Lawful (judge_command env at c)
+lawful-command env at c = lawful-then _ _ (lawful-own env at c) (λ made. lawful-done _)
 
 pub lawful-tree : (env : Environment) (t : Sexp Tok) → Lawful (judge_tree env t)
 lawful-tree env t = lawful-then _ _ (lawful-grammar t) (λ c. lawful-command env _ c)

@@ -1,17 +1,19 @@
 -- A scope stays ready through the commands that change it.
-use Rattle.std.proofs.Common.{◌≡◌, ℕ, ◌<◌, Bool, true, false, List, [], length, IsTrue, refl, sym, ◌∙◌, subst}
+use Rattle.std.proofs.Common.{◌≡◌, ℕ, ◌<◌, ◌≤◌, Bool, true, false, List, [], length, IsTrue, refl, sym, ◌∙◌, subst}
 use Rattle.std.specs.List.{All}
 use Rattle.std.proofs.lemmas.Bool.{false≢true}
 use Rattle.sig_table.specs.declared.theories.Theories.{Theories}
-use Rattle.sort_store.specs.Interned.{HasNoRepeats}
+use Rattle.sort_store.specs.Interned.{AllInterned, Grows, HasNoRepeats, IsInterned}
+use Rattle.sort_store.specs.Tree.{Sort}
 use Rattle.scope_stack.specs.declared.entry.FunEntry.{FunEntry}
 use Rattle.scope_stack.specs.declared.entry.SortEntry.{SortEntry}
 use Rattle.scope_stack.specs.Environment.{Environment as Scopes}
 use Rattle.scope_stack.specs.Environment as scopes
-use Rattle.typer.specs.Ready.{IsReady, IsReadyFun, IsReadyFunEntry, IsReadySort, IsReadySortEntry}
+use Rattle.typer.specs.Ready.{IsReady, IsReadyFunEntry, IsReadySort, IsReadySortEntry}
 use Rattle.typer.specs.SortSymbols.{is_theory_sort}
 use Rattle.typer.specs.declared.world.World.{World}
 use Rattle.typer.proofs.LiveDeclarations.{all_of_each}
+use Rattle.typer.proofs.ReadyKept.{grown}
 use Rattle.typer.proofs.ReadyCalls.{ready_with_fun, ready_with_global, ready_with_popped, ready_with_pushed, ready_with_sort, ready_without_assertions}
 use Rattle.script_core.specs.declared.scope.Scope.{Scope}
 use Rattle.script_core.specs.Checking.{HasNone, IsReadyScope}
@@ -35,8 +37,8 @@ module _ (scope : Scope) (s : Scopes) (next : ℕ) (stands : IsReadyScope scope)
   stands_with : (t : Scopes) → s ≡ t → IsReady (record scope.world { scopes = t }) → IsReadyScope after
   stands_with t e ready = stands_under after set (subst (λ (x : Scopes). IsReady (record scope.world { scopes = x })) (sym e) ready)
 
-  pub fun_stands : (name : ℕ) (d : FunEntry) → s ≡ scopes.with_fun name d scope.world.scopes → name < length scope.world.names → IsReadyFunEntry scope.world.names scope.world.sorts d → IsReadyScope after
-  fun_stands name d e named entry = stands_with _ e (ready_with_fun scope.world stands.ready name d (record { name = named; entry = entry }))
+  pub fun_stands : (name : ℕ) (d : FunEntry) → s ≡ scopes.with_fun name d scope.world.scopes → IsReadyFunEntry scope.world.sorts d → IsReadyScope after
+  fun_stands name d e entry = stands_with _ e (ready_with_fun scope.world stands.ready name d entry)
 
   pub sort_stands : (name : ℕ) (d : SortEntry) → s ≡ scopes.with_sort name d scope.world.scopes → name < length scope.world.names
       → is_theory_sort scope.world.names scope.world.theories name ≡ false → IsReadySortEntry scope.world.names scope.world.sorts d → IsReadyScope after
@@ -53,11 +55,12 @@ module _ (scope : Scope) (s : Scopes) (next : ℕ) (stands : IsReadyScope scope)
   forgotten_stands e = stands_with _ e (ready_without_assertions scope.world stands.ready)
 
 -- a world without declarations is ready under any theories
-ready_undeclared : (world : World) → HasNone world.scopes → HasNoRepeats world.sorts → IsReady world
-ready_undeclared world none distinct = record {
+ready_undeclared : (world : World) → HasNone world.scopes → HasNoRepeats world.sorts → length world.seen.items ≤ world.next.0 → IsReady world
+ready_undeclared world none distinct numbered = record {
   distinct = distinct;
   sorts = subst (λ (ds : List (ℕ × SortEntry)). All (IsReadySort world.names world.theories world.sorts) ds) (sym none.sorts) (all_of_each _ [] tt);
-  funs = subst (λ (ds : List (ℕ × FunEntry)). All (IsReadyFun world.names world.sorts) ds) (sym none.funs) (all_of_each _ [] tt);
+  funs = subst (λ (ds : List (ℕ × FunEntry)). All (λ (d : ℕ × FunEntry). IsReadyFunEntry world.sorts d.1) ds) (sym none.funs) (all_of_each _ [] tt);
+  numbered = numbered;
 }
 
 abbrev pub under_theories : Theories → Bool → Scope → Scope
@@ -66,7 +69,7 @@ under_theories theories logic scope = record scope { world = record scope.world 
 -- a logic brings its theories
 pub logic_stands : (scope : Scope) (theories : Theories) → IsReadyScope scope → scope.logic ≡ false → IsReadyScope (under_theories theories true scope)
 logic_stands scope theories stands unset =
-    stands_under (under_theories theories true scope) refl (ready_undeclared (record scope.world { theories = theories }) (stands.undeclared unset) stands.ready.distinct)
+    stands_under (under_theories theories true scope) refl (ready_undeclared (record scope.world { theories = theories }) (stands.undeclared unset) stands.ready.distinct stands.ready.numbered)
 
 pub none_in : (s : Scopes) → s ≡ scopes.empty → HasNone s
 none_in s e = subst HasNone (sym e) (record { funs = refl; sorts = refl })
@@ -74,7 +77,7 @@ none_in s e = subst HasNone (sym e) (record { funs = refl; sorts = refl })
 -- nothing is declared after reset, whatever the theories are
 pub reset_stands : (scope : Scope) (s : Scopes) (theories : Theories) → IsReadyScope scope → s ≡ scopes.empty → IsReadyScope (under_theories theories false (with_scopes s scope))
 reset_stands scope s theories stands e = record {
-  ready = ready_undeclared (record scope.world { scopes = s; theories = theories }) (none_in s e) stands.ready.distinct;
+  ready = ready_undeclared (record scope.world { scopes = s; theories = theories }) (none_in s e) stands.ready.distinct stands.ready.numbered;
   undeclared = λ unset. none_in s e;
 }
 
@@ -88,3 +91,23 @@ option_stands scope s on stands e = record {
 -- the world has made sorts and terms, and nothing else
 pub grown_stands : (scope : Scope) (world : World) → IsReadyScope scope → world.scopes ≡ scope.world.scopes → IsReady world → IsReadyScope (record scope { world = world })
 grown_stands scope world stands same ready = record { ready = ready; undeclared = λ unset. subst HasNone (sym same) (stands.undeclared unset) }
+
+-- a world whose store alone has grown
+abbrev pub with_store : List Sort → Scope → Scope
+with_store store scope = record scope { world = record scope.world { sorts = store } }
+
+pub store_stands : (scope : Scope) (store : List Sort) → IsReadyScope scope → Grows scope.world.sorts store → HasNoRepeats store → IsReadyScope (with_store store scope)
+store_stands scope store stands g distinct = grown_stands scope (record scope.world { sorts = store }) stands refl (grown scope.world store g distinct stands.ready)
+
+-- a constant is live whose sort the store has made
+pub constant_stands : (scope : Scope) (store : List Sort) (s : Scopes) (next name : ℕ) (d : FunEntry) → IsReadyScope scope → IsTrue scope.logic → Grows scope.world.sorts store → HasNoRepeats store
+    → s ≡ scopes.with_fun name d scope.world.scopes → d.args ≡ [] → d.params ≡ 0 → IsInterned store d.result → IsReadyScope (record (with_scopes s (with_store store scope)) { next = next })
+constant_stands scope store s next name d stands set g distinct e args params result =
+    fun_stands (with_store store scope) s next (store_stands scope store stands g distinct) set name d e (record {
+      entry = record { args = subst (AllInterned store) (sym args) tt; result = result; below = λ n. absurd (n params) };
+      params = λ kind. params;
+    })
+
+-- the scopes are as they were
+pub scopes_stand : (scope : Scope) (s : Scopes) → s ≡ scope.world.scopes → IsReadyScope scope → IsReadyScope (with_scopes s scope)
+scopes_stand scope s same stands = subst (λ (x : Scopes). IsReadyScope (with_scopes x scope)) (sym same) stands

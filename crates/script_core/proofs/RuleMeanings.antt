@@ -1,8 +1,8 @@
 -- What the rules answer as functions is what the relation of the rules says.
-use Rattle.std.proofs.Common.{◌≡◌, ℕ, ◌+◌, ◌≤◌, nat_le, Bool, true, false, not, ◌&&◌, ◌||◌, ◌==◌, ◌<◌, List, [], ◌∷◌, ◌++◌, length, map, Option, Some, None, append_assoc, append-nil, Result, Ok, Err, IsTrue, refl, ap, sym, ◌∙◌, subst, inl, inr}
+use Rattle.std.proofs.Common.{◌≡◌, ℕ, ◌+◌, ◌≤◌, nat_le, Bool, true, false, not, ◌&&◌, ◌||◌, ◌==◌, ◌<◌, List, [], ◌∷◌, ◌++◌, length, map, append_assoc, append-nil, Result, Ok, Err, IsTrue, refl, ap, sym, ◌∙◌, subst, inl, inr, arith}
 use Rattle.std.specs.Option.{is_some}
 use Rattle.std.proofs.lemmas.Bool.{false≢true, le-leb, leb-true}
-use Rattle.std.proofs.lemmas.List.{map-append}
+use Rattle.std.proofs.lemmas.List.{length-map, map-append}
 use Rattle.std.proofs.Math.Seq.{take-length}
 use Rattle.lex_core.specs.declared.place.Place.{Place}
 use Rattle.lex_core.specs.declared.token.Tok.{Tok}
@@ -15,9 +15,9 @@ use Rattle.term_grammar.specs.Reads.{byte_of}
 use Rattle.term_grammar.specs.Syntax.{Term, constant, qualified_term, application, let_in, for_all, there_exists, match_with, annotated, Terms, no_terms, with_term, Bindings, no_bindings, with_binding, Notes, no_notes, with_note, Note, named_note, pattern_note, attribute_note}
 use Rattle.term_store.specs.Command.{PlainCommand, PlainDef, plain_command, plain_def}
 use Rattle.term_store.specs.Command as typed
-use Rattle.term_store.specs.Declarations.{Declaration, declared_by, declared_in}
+use Rattle.term_store.specs.Declarations.{declared_by, declared_in}
 use Rattle.term_store.specs.declared.command.Def.{Def}
-use Rattle.logic_frag.specs.FragmentRules.{DefinesRecursively, HasTerm, IsQuantifier, own_definitions}
+use Rattle.logic_frag.specs.FragmentRules.{DefinesRecursively, HasTerm, IsQuantifier}
 use Rattle.logic_frag.proofs.FoundParts.{has_quantified}
 use Rattle.cmd_grammar.specs.Commands.{Command, FunDec, assert, declare_const, declare_fun, declare_sort, define_fun, define_fun_rec, define_funs_rec, define_sort, echo, exit, get_info, get_option, get_value, pop, push, reset, set_info, set_logic, set_option}
 use Rattle.cmd_grammar.specs.CommandReads.{read_command}
@@ -33,18 +33,22 @@ use Rattle.script_core.specs.declared.scope.StepError.TheVariants as error
 use Rattle.term_store.specs.Script.{Kept, commands_of}
 use Rattle.term_store.specs.declared.command.TypedCommand.{TypedCommand}
 use Rattle.script_core.specs.declared.scope.Scope.{Scope}
+use Rattle.script_core.specs.declared.scope.Taken.{Taken}
 use Rattle.script_core.specs.Checking.{AnswersTree, TakesTree, environment_of, progress_of}
-use Rattle.script_core.specs.Effects.{Answers, AnswersParts, AreNamed, IsDeclaredNamed, IsInMode}
+use Rattle.script_core.specs.Effects.{AreNamed, IsDeclaredNamed, IsInMode, IsSameTo, Meets, MeetsParts}
 use Rattle.script_core.specs.Environment.{Environment, logic_theories, text_of}
 use Rattle.script_core.specs.Interned.{AreInterned}
-use Rattle.script_core.specs.Keeping.{EachUnused, KeepsBelow, KeepsDefined, KeepsEarlier, KeepsPart, defined_by, defined_in, definitions_in, with_definitions, with_some}
+use Rattle.script_core.specs.Keeping.{EachUnused, KeepsBelow, KeepsDefined, KeepsEarlier, KeepsPart, defined_in, definitions_in, with_definitions}
 use Rattle.script_core.specs.RuleAnswers.{Answer, answer_all_built, answer_bindings_built, answer_built, answer_form, answer_fragment, answer_mode, answer_note_built, answer_notes_built, both, is_quantified, is_recursive, test}
-use Rattle.script_core.specs.Rules.{has_named, is_built, judge_all_built, judge_bindings_built, judge_built, judge_command, judge_form, judge_fragment, judge_mode, judge_note_built, judge_notes_built, judge_parts, value_of}
+use Rattle.script_core.specs.Rules.{is_built, judge_all_built, judge_bindings_built, judge_built, judge_form, judge_fragment, judge_mode, judge_note_built, judge_notes_built, judge_own, judge_parts, named_by, value_of, with_names_given}
 use Rattle.typer.specs.TermRules.{attribute_key}
-use Rattle.script_core.specs.Steps.{is_exit, judge_tree}
+use Rattle.script_core.specs.Steps.{is_exit, judge_own_tree, judge_tree}
 use Rattle.script_core.proofs.KeptNumbers.{each_unused, part_earlier}
-use Rattle.script_core.proofs.SoundNumbers.{AscendFrom, ascend_from}
-use Rattle.script_core.proofs.StepNumbers.{definitions_ascend, definitions_own, tree_numbered}
+use Rattle.script_core.proofs.NamedLogic.{logic_of_parts}
+use Rattle.script_core.proofs.NamedWalks.{defined_joined}
+use Rattle.script_core.proofs.QuietRules.{none-fragment}
+use Rattle.script_core.proofs.SoundNumbers.{AscendFrom}
+use Rattle.script_core.proofs.StepNumbers.{IsNumberedStep, all_definitions, definitions_ascend, tree_numbered}
 
 -- the judgement has this outcome, where no name is declared
 abbrev pub IsMet : {A : Type 0} → Judging A → Result A Place → Type 0
@@ -80,9 +84,7 @@ mutual
   built_met (for_all at vs u) = built_met u
   built_met (there_exists at vs u) = built_met u
   built_met (match_with at u cs) = refl
-  built_met (annotated at u ns) =
-      then_met (check (has_named ns ≡ false) code.WrongTermForm at) (judge_built u >>= λ _. judge_notes_built ns) (test (not (has_named ns)) code.WrongTermForm at) (both (answer_built u) (answer_notes_built ns))
-      (not_met (has_named ns) code.WrongTermForm at) (then_met (judge_built u) (judge_notes_built ns) (answer_built u) (answer_notes_built ns) (built_met u) (notes_built_met ns))
+  built_met (annotated at u ns) = then_met (judge_built u) (judge_notes_built ns) (answer_built u) (answer_notes_built ns) (built_met u) (notes_built_met ns)
 
   all_built_met : (ts : Terms) → IsMet (judge_all_built ts) (answer_all_built ts)
   all_built_met no_terms = (refl, refl)
@@ -201,18 +203,39 @@ command_in_mode env at c e = in_mode env at c (second_right (answer_form at c) (
 abbrev pub typed_in : Environment → TypedCommand → PlainCommand × Environment
 typed_in env c = (plain_command c, env)
 
+-- .. with its named terms
+abbrev pub taken_in : Environment → Taken → PlainCommand × Environment
+taken_in env taken = (plain_command taken.command, env)
+
+-- what a tree leads to before its named terms are live
+abbrev pub MeetsOwn : Environment → Sexp Tok → Result TypedCommand StepError → Environment → List ℕ → Type 0
+MeetsOwn env t result new after = Meets (judge_own_tree env t) (typed_in new) result [] after
+
+abbrev pub MeetsTree : Scope → Sexp Tok → Result Taken StepError → Environment → List ℕ → Type 0
+MeetsTree old t result new after = Meets (judge_tree (environment_of old.world.names old) t) (taken_in new) result [] after
+
+-- the judgement has this outcome after these names, and declares none
+abbrev pub MetAfter : Judging (Unit {0}) → List ℕ → Answer → Type 0
+MetAfter J names (Ok u) = J names (well_sorted u names)
+MetAfter J names (Err place) = J names (ill_sorted place)
+
 -- the parts of a command, and whether the logic allows it
 abbrev judge_rest : Environment → ℕ → Command → Judging (PlainCommand × Environment)
 judge_rest env at c = judge_parts env at c >>= (λ made. judge_fragment env at made.0 >>= (λ w. done made))
 
+-- whether the logic allows a command does not depend on the names that it has declared
+fragment_after : (env : Environment) (at : ℕ) (c : PlainCommand) (names : List ℕ) (r : Answer) → IsMet (judge_fragment env at c) r → MetAfter (judge_fragment env at c) names r
+fragment_after env at c names (Ok tt) h = (none-fragment env at c [] (well_sorted tt []) h).1 names
+fragment_after env at c names (Err p) h = none-fragment env at c [] (ill_sorted p) h names
+
 -- the tree is read as no command
-pub tree_no_command : (env new : Environment) (t : Sexp Tok) (e : GrError) (p : Place) → e ≡ grammar.Fault p → ReadAnswers t (Err e) → Answers (judge_tree env t) (typed_in new) (Err (error.Broken p))
-tree_no_command env new t e p is h = inl (found_fault t p (subst (λ (x : GrError). ReadAnswers t (Err x)) is h))
+pub tree_no_command : (env new : Environment) (after : List ℕ) (t : Sexp Tok) (e : GrError) (p : Place) → e ≡ grammar.Fault p → ReadAnswers t (Err e) → MeetsOwn env t (Err (error.Broken p)) new after
+tree_no_command env new after t e p is h = inl (found_fault t p (subst (λ (x : GrError). ReadAnswers t (Err x)) is h))
 
 -- the tree is read as a command whose form or mode breaks a rule
-pub tree_broken : (env new : Environment) (t : Sexp Tok) (c : Command) (at : ℕ) (p : Place) → read_command t ≡ Ok c → at ≡ byte_of t → both (answer_form at c) (answer_mode env at c) ≡ Err p
-    → Answers (judge_tree env t) (typed_in new) (Err (error.Broken p))
-tree_broken env new t c at p read here says =
+pub tree_broken : (env new : Environment) (after : List ℕ) (t : Sexp Tok) (c : Command) (at : ℕ) (p : Place) → read_command t ≡ Ok c → at ≡ byte_of t → both (answer_form at c) (answer_mode env at c) ≡ Err p
+    → MeetsOwn env t (Err (error.Broken p)) new after
+tree_broken env new after t c at p read here says =
     inr (
       c,
       [],
@@ -226,76 +249,118 @@ tree_broken env new t c at p read here says =
     first_broken I J K (Ok u) (Err x) p i j e = let h : x ≡ p = cc in inr (tt, [], i, inl (subst (λ (y : Place). J [] (ill_sorted y)) h j))
     first_broken I J K (Err x) s p i j e = let h : x ≡ p = cc in inl (subst (λ (y : Place). I [] (ill_sorted y)) h i)
 
+-- the parts of a command, from the scope in which its names are counted
+pub parts_moved : (old here new : Scope) (at : ℕ) (c : Command) (r : Result TypedCommand StepError) (after : List ℕ) → IsSameTo old here → here.world.names ≡ old.world.names
+    → MeetsParts (environment_of here.world.names here) at c r (environment_of here.world.names new) after → MeetsParts (environment_of old.world.names old) at c r (environment_of old.world.names new) after
+parts_moved old here new at c r after same names h =
+    subst (λ (e : Environment). MeetsParts e at c r (environment_of old.world.names new) after) same (subst (λ (ns : List (List ℕ)). MeetsParts (environment_of here.world.names here) at c r (environment_of ns new) after) names h)
+
 -- A tree that is read as a command, whose form and mode are right.
-module _ (env new : Environment) (t : Sexp Tok) (c : Command) (at : ℕ) (read : read_command t ≡ Ok c) (here : at ≡ byte_of t) (says : both (answer_form at c) (answer_mode env at c) ≡ Ok tt) where
-  command_after : (o : Outcome (PlainCommand × Environment)) → judge_rest env at c [] o → judge_command env at c [] o
+module _ (env new : Environment) (after : List ℕ) (t : Sexp Tok) (c : Command) (at : ℕ) (read : read_command t ≡ Ok c) (here : at ≡ byte_of t) (says : both (answer_form at c) (answer_mode env at c) ≡ Ok tt) where
+  command_after : (o : Outcome (PlainCommand × Environment)) → judge_rest env at c [] o → judge_own env at c [] o
   command_after o rest = met (judge_form at c) (judge_mode env at c) (judge_rest env at c) (answer_form at c) (answer_mode env at c) o (form_met at c) (mode_met env at c) says rest
     where
       met : (I J : Judging (Unit {0})) (K : Judging (PlainCommand × Environment)) (r s : Answer) (o : Outcome (PlainCommand × Environment)) → IsMet I r → IsMet J s → both r s ≡ Ok tt → K [] o → (I >>= λ u. J >>= λ v. K) [] o
-      met I J K (Ok u) (Ok v) (well_sorted x after) i j e k = (tt, [], i, (tt, [], j, k))
+      met I J K (Ok u) (Ok v) (well_sorted x last) i j e k = (tt, [], i, (tt, [], j, k))
       met I J K (Ok u) (Ok v) (ill_sorted p) i j e k = inr (tt, [], i, inr (tt, [], j, k))
       met I J K (Ok u) (Err x) o i j e k = cc
       met I J K (Err x) s o i j e k = cc
 
-  judged_rest : (o : Outcome (PlainCommand × Environment)) → judge_rest env at c [] o → judge_tree env t [] o
-  judged_rest (well_sorted x after) rest =
-      (c, [], (found_reads t c read, refl), subst (λ (n : ℕ). judge_command env n c [] (well_sorted x after)) here (command_after (well_sorted x after) rest))
+  judged_rest : (o : Outcome (PlainCommand × Environment)) → judge_rest env at c [] o → judge_own_tree env t [] o
+  judged_rest (well_sorted x last) rest =
+      (c, [], (found_reads t c read, refl), subst (λ (n : ℕ). judge_own env n c [] (well_sorted x last)) here (command_after (well_sorted x last) rest))
   judged_rest (ill_sorted p) rest =
-      inr (c, [], (found_reads t c read, refl), subst (λ (n : ℕ). judge_command env n c [] (ill_sorted p)) here (command_after (ill_sorted p) rest))
+      inr (c, [], (found_reads t c read, refl), subst (λ (n : ℕ). judge_own env n c [] (ill_sorted p)) here (command_after (ill_sorted p) rest))
 
   -- its parts break a rule or want memory
-  pub tree_refused : (e : StepError) → AnswersParts env at c (Err e) new → Answers (judge_tree env t) (typed_in new) (Err e)
+  pub tree_refused : (e : StepError) → MeetsParts env at c (Err e) new after → MeetsOwn env t (Err e) new after
   tree_refused error.NoMemory parts = tt
   tree_refused (error.Broken p) parts = judged_rest (ill_sorted p) (inl parts)
 
-  module _ (command : TypedCommand) (r : Answer) (parts : AnswersParts env at c (Ok command) new) (asked : r ≡ answer_fragment env.theories at (plain_command command)) where
+  module _ (command : TypedCommand) (r : Answer) (parts : MeetsParts env at c (Ok command) new after) (asked : r ≡ answer_fragment env.theories at (plain_command command)) where
     met_here : IsMet (judge_fragment env at (plain_command command)) r
     met_here = subst (λ (x : Answer). IsMet (judge_fragment env at (plain_command command)) x) (sym asked) (fragment_met env at (plain_command command))
 
     -- the logic allows it, or not
-    pub tree_allowed : r ≡ Ok tt → Answers (judge_tree env t) (typed_in new) (Ok command)
+    pub tree_allowed : r ≡ Ok tt → MeetsOwn env t (Ok command) new after
     tree_allowed fine =
-        judged_rest (well_sorted (typed_in new command) []) (typed_in new command, [], parts, (tt, [], subst (λ (x : Answer). IsMet (judge_fragment env at (plain_command command)) x) fine met_here, (refl, refl)))
+        judged_rest (well_sorted (typed_in new command) after)
+        (typed_in new command, after, parts, (tt, after, fragment_after env at (plain_command command) after (Ok tt) (subst (λ (x : Answer). IsMet (judge_fragment env at (plain_command command)) x) fine met_here), (refl, refl)))
 
-    pub tree_outside : (p : Place) → r ≡ Err p → Answers (judge_tree env t) (typed_in new) (Err (error.Broken p))
-    tree_outside p bad = judged_rest (ill_sorted p) (inr (typed_in new command, [], parts, inl (subst (λ (x : Answer). IsMet (judge_fragment env at (plain_command command)) x) bad met_here)))
+    pub tree_outside : (p : Place) → r ≡ Err p → MeetsOwn env t (Err (error.Broken p)) new after
+    tree_outside p bad =
+        judged_rest (ill_sorted p)
+        (inr (typed_in new command, after, parts, inl (fragment_after env at (plain_command command) after (Err p) (subst (λ (x : Answer). IsMet (judge_fragment env at (plain_command command)) x) bad met_here))))
+
+-- The named terms are live: what a tree leads to before that and after.
+module _ (old own new : Scope) (t : Sexp Tok) (after : List ℕ) where
+  abbrev before_env : Environment
+  before_env = environment_of old.world.names old
+
+  abbrev own_env : Environment
+  own_env = environment_of old.world.names own
+
+  pub own_fault : (e : StepError) (last : List ℕ) → MeetsOwn before_env t (Err e) own_env after → Meets {A = Taken} (judge_tree before_env t) (taken_in (environment_of old.world.names new)) (Err e) [] last
+  own_fault error.NoMemory last h = tt
+  own_fault (error.Broken p) last (inl g) = inl g
+  own_fault (error.Broken p) last (inr (c, between, reads, h)) = inr (c, between, reads, inl h)
+
+  pub own_taken : (taken : Taken) (last : List ℕ) → MeetsOwn before_env t (Ok taken.command) own_env after → last ≡ after
+      → environment_of old.world.names new ≡ with_names_given own_env (defined_in (named_by (plain_command taken.command))) → Meets (judge_tree before_env t) (taken_in (environment_of old.world.names new)) (Ok taken) [] last
+  own_taken taken last (c, between, reads, h) same effect =
+      (c, between, reads, (typed_in own_env taken.command, after, h, (ap (λ (e : Environment). (plain_command taken.command, e)) effect, same)))
+
+-- the named terms, under the names of before
+pub names_under : (old own new : Scope) (defs : List PlainDef) (shown : List Def) → own.world.names ≡ old.world.names → environment_of own.world.names new ≡ with_names_given (environment_of own.world.names own) (map plain_def shown)
+    → map plain_def shown ≡ defs → environment_of old.world.names new ≡ with_names_given (environment_of old.world.names own) defs
+names_under old own new defs shown names effect same =
+    subst (λ (ns : List (List ℕ)). environment_of ns new ≡ with_names_given (environment_of ns own) defs) names (effect ∙ ap (with_names_given (environment_of own.world.names own)) same)
+
+-- a logic is set where a command names terms
+pub names_logic : (env new : Environment) (t : Sexp Tok) (c : TypedCommand) (after : List ℕ) (named : List Def) → MeetsOwn env t (Ok c) new after → map plain_def named ≡ defined_in (named_by (plain_command c)) → 0 < length named → IsTrue new.logic
+names_logic env new t c after named (raw, between, reads, (u, first, form, (v, second, mode, (made, third, parts, (w, fourth, fragment, (g, i)))))) same some =
+    let command : made.0 ≡ plain_command c = sym (ap (λ (p : PlainCommand × Environment). p.0) g) in
+    let env_is : made.1 ≡ new = sym (ap (λ (p : PlainCommand × Environment). p.1) g) in
+    subst (λ (e : Environment). IsTrue e.logic) env_is
+    (logic_of_parts env _ raw made.0 made.1 first second second third mode parts (λ none. (let no_defs : map plain_def named ≡ [] = same ∙ ap (λ (x : PlainCommand). defined_in (named_by x)) (sym command) ∙ ap defined_in none in
+    omega (arith, some, ap length no_defs, length-map named plain_def))))
 
 -- the tree breaks a rule, or wants memory
-pub tree_fault : (old after : Scope) (new : Environment) (t : Sexp Tok) (e : StepError) → Answers (judge_tree (environment_of old.world.names old) t) (typed_in new) (Err e) → AnswersTree old t (Err e) after
-tree_fault old after new t error.NoMemory h = tt
-tree_fault old after new t (error.Broken p) h = h
+pub tree_fault : (old after : Scope) (new : Environment) (names : List ℕ) (t : Sexp Tok) (e : StepError) → MeetsTree old t (Err e) new names → AnswersTree old t (Err e) after
+tree_fault old after new names t error.NoMemory h = tt
+tree_fault old after new names t (error.Broken p) h = h
 
 pub no_memory : (old after : Scope) (t : Sexp Tok) (e : StepError) → e ≡ error.NoMemory → AnswersTree old t (Err e) after
 no_memory old after t e is = subst (λ (x : StepError). AnswersTree old t (Err x) after) (sym is) tt
 
-tree_ascends : (old : Scope) (new : Environment) (t : Sexp Tok) (c : TypedCommand) → Answers (judge_tree (environment_of old.world.names old) t) (typed_in new) (Ok c) → AscendFrom old.next (map (λ (d : Def). d.no.0) (definitions_in c))
-tree_ascends old new t c h =
-    definitions_ascend c old.next (ascend_from old.next _ new.next (tree_numbered (environment_of old.world.names old) t (plain_command c) new [] h).ascend)
+-- A command that was taken with its named terms.
+module _ (old : Scope) (new : Environment) (names : List ℕ) (t : Sexp Tok) (taken : Taken) (shown : List Def) (seen : shown ≡ taken.named.items) (judged : MeetsTree old t (Ok taken) new names)
+    (same : map plain_def taken.named.items ≡ defined_in (named_by (plain_command taken.command))) where
+  abbrev all_defs : List Def
+  all_defs = definitions_in taken.command ++ shown
 
--- nothing is kept yet under the numbers of a command's definitions
-pub tree_unused : (old : Scope) (new : Environment) (t : Sexp Tok) (c : TypedCommand) (script : Kept) → KeepsBelow old.next old.world.script.defs → Answers (judge_tree (environment_of old.world.names old) t) (typed_in new) (Ok c)
-    → script ≡ old.world.script → EachUnused script.defs (definitions_in c)
-tree_unused old new t c script below h same =
-    subst (λ (k : Kept). EachUnused k.defs (definitions_in c)) (sym same) (each_unused old.world.script.defs (definitions_in c) old.next below (tree_ascends old new t c h))
+  shown_same : map plain_def shown ≡ defined_in (named_by (plain_command taken.command))
+  shown_same = ap (map plain_def) seen ∙ same
 
--- where only some definitions are kept, or all of them, but no command
-pub some_kept : (old : Scope) (new : Environment) (t : Sexp Tok) (c : TypedCommand) (script after : Kept) → Answers (judge_tree (environment_of old.world.names old) t) (typed_in new) (Ok c) → script ≡ old.world.script
-    → KeepsPart script (definitions_in c) after → KeepsEarlier old.next old.world.script after
-some_kept old new t c script after h same part =
-    part_earlier old.world.script after (definitions_in c) old.next (tree_ascends old new t c h) (subst (λ (k : Kept). KeepsPart k (definitions_in c) after) same part)
+  numbered : IsNumberedStep (environment_of old.world.names old) (plain_command taken.command) new
+  numbered = tree_numbered (environment_of old.world.names old) t (plain_command taken.command) new names judged
 
-pub all_kept : (old : Scope) (new : Environment) (t : Sexp Tok) (c : TypedCommand) (script after : Kept) → Answers (judge_tree (environment_of old.world.names old) t) (typed_in new) (Ok c) → script ≡ old.world.script
-    → after ≡ with_definitions script (definitions_in c) → KeepsEarlier old.next old.world.script after
-all_kept old new t c script after h same kept =
-    some_kept old new t c script after h same (length (definitions_in c), kept ∙ ap (with_definitions script) (sym (take-length (definitions_in c))))
+  tree_ascends : AscendFrom old.next (map (λ (d : Def). d.no.0) all_defs)
+  tree_ascends = definitions_ascend (environment_of old.world.names old) new taken.command shown numbered shown_same
 
-defined_joined : (xs ys : List Declaration) → defined_in (xs ++ ys) ≡ defined_in xs ++ defined_in ys
-defined_joined [] ys = refl
-defined_joined (x ∷ xs) ys = put (defined_by x) (defined_joined xs ys)
-  where
-    put : (o : Option PlainDef) → defined_in (xs ++ ys) ≡ defined_in xs ++ defined_in ys → with_some o (defined_in (xs ++ ys)) ≡ with_some o (defined_in xs) ++ defined_in ys
-    put None rest = rest
-    put (Some d) rest = ap (λ ds. d ∷ ds) rest
+  -- nothing is kept yet under the numbers of its definitions
+  pub tree_unused : (script : Kept) → KeepsBelow old.next old.world.script.defs → script ≡ old.world.script → EachUnused script.defs all_defs
+  tree_unused script below kept = subst (λ (k : Kept). EachUnused k.defs all_defs) (sym kept) (each_unused old.world.script.defs all_defs old.next below tree_ascends)
+
+  -- where only some definitions are kept, or all of them, but no command
+  pub some_kept : (script after : Kept) → script ≡ old.world.script → KeepsPart script all_defs after → KeepsEarlier old.next old.world.script after
+  some_kept script after kept part = part_earlier old.world.script after all_defs old.next tree_ascends (subst (λ (k : Kept). KeepsPart k all_defs after) kept part)
+
+  pub all_kept : (script after : Kept) → script ≡ old.world.script → after ≡ with_definitions script all_defs → KeepsEarlier old.next old.world.script after
+  all_kept script after kept whole = some_kept script after kept (length all_defs, whole ∙ ap (with_definitions script) (sym (take-length all_defs)))
+
+  pub all_defined : map plain_def all_defs ≡ defined_in (declared_by (plain_command taken.command))
+  all_defined = all_definitions (environment_of old.world.names old) new taken.command shown numbered shown_same
 
 declared_more : (cs : List PlainCommand) (c : PlainCommand) → declared_in (cs ++ c ∷ []) ≡ declared_in cs ++ declared_by c
 declared_more [] c = append-nil (declared_by c)
@@ -305,27 +370,28 @@ defined_more : (cs : List PlainCommand) (c : PlainCommand) → defined_in (decla
 defined_more cs c = ap defined_in (declared_more cs c) ∙ defined_joined (declared_in cs) (declared_by c)
 
 -- the definitions of the commands are kept
-keeps_more : (old kept new : Kept) (c : TypedCommand) → defined_in (declared_by (plain_command c)) ≡ own_definitions (plain_command c) → kept ≡ with_definitions old (definitions_in c)
+keeps_more : (old kept new : Kept) (c : TypedCommand) (defs : List Def) → map plain_def defs ≡ defined_in (declared_by (plain_command c)) → kept ≡ with_definitions old defs
     → new ≡ record { commands = kept.commands ++ c ∷ []; defs = kept.defs } → KeepsDefined old → KeepsDefined new
-keeps_more old kept new c own with_own pushed keeps =
+keeps_more old kept new c defs own with_own pushed keeps =
     subst KeepsDefined (sym (pushed ∙ ap (λ (k : Kept). record { commands = k.commands ++ c ∷ []; defs = k.defs }) with_own)) (record {
-      defs = map-append plain_def old.defs.defs (definitions_in c) ∙ (ap (λ ds. ds ++ map plain_def (definitions_in c)) keeps.defs
-          ∙ (ap (λ ds. defined_in (declared_in (commands_of old)) ++ ds) (definitions_own c ∙ sym own) ∙ sym (ap (λ cs. defined_in (declared_in cs)) (map-append plain_command old.commands (c ∷ [])) ∙ defined_more (commands_of old) (plain_command c))));
+      defs = map-append plain_def old.defs.defs defs ∙ (ap (λ ds. ds ++ map plain_def defs) keeps.defs
+          ∙ (ap (λ ds. defined_in (declared_in (commands_of old)) ++ ds) own ∙ sym (ap (λ cs. defined_in (declared_in cs)) (map-append plain_command old.commands (c ∷ [])) ∙ defined_more (commands_of old) (plain_command c))));
       no_datatypes = keeps.no_datatypes;
     })
 
 -- the tree is read as a command, which is put last
-pub tree_takes : (old mid : Scope) (kept after : Kept) (t : Sexp Tok) (c : TypedCommand) (p : Progress) → Answers (judge_tree (environment_of old.world.names old) t) (typed_in (environment_of old.world.names mid)) (Ok c)
-    → mid.world.script ≡ old.world.script → kept ≡ with_definitions mid.world.script (definitions_in c) → after ≡ record { commands = kept.commands ++ c ∷ []; defs = kept.defs }
-    → p ≡ progress_of (is_exit (plain_command c)) → TakesTree old t p (record mid { world = record mid.world { script = after } })
-tree_takes old mid kept after t c p h same with_own pushed goes = record {
-  command = plain_command c;
-  declared = [];
+pub tree_takes : (old mid : Scope) (kept after : Kept) (names : List ℕ) (t : Sexp Tok) (taken : Taken) (shown : List Def) (p : Progress) → shown ≡ taken.named.items → MeetsTree old t (Ok taken) (environment_of old.world.names mid) names
+    → map plain_def taken.named.items ≡ defined_in (named_by (plain_command taken.command)) → mid.world.script ≡ old.world.script → kept ≡ with_definitions mid.world.script (definitions_in taken.command ++ shown)
+    → after ≡ record { commands = kept.commands ++ taken.command ∷ []; defs = kept.defs } → p ≡ progress_of (is_exit (plain_command taken.command)) → TakesTree old t p (record mid { world = record mid.world { script = after } })
+tree_takes old mid kept after names t taken shown p seen h named same with_own pushed goes = record {
+  command = plain_command taken.command;
+  declared = names;
   judged = h;
   goes_on = goes;
-  put_last = ap commands_of pushed ∙ (map-append plain_command kept.commands (c ∷ []) ∙ (ap (λ (k : Kept). commands_of k ++ plain_command c ∷ []) with_own ∙ ap (λ (k : Kept). commands_of k ++ plain_command c ∷ []) same));
-  keeps = keeps_more old.world.script kept after c (tree_numbered (environment_of old.world.names old) t (plain_command c) (environment_of old.world.names mid) [] h).own
-      (with_own ∙ ap (λ (k : Kept). with_definitions k (definitions_in c)) same) pushed;
+  put_last = ap commands_of pushed
+      ∙ (map-append plain_command kept.commands (taken.command ∷ []) ∙ (ap (λ (k : Kept). commands_of k ++ plain_command taken.command ∷ []) with_own ∙ ap (λ (k : Kept). commands_of k ++ plain_command taken.command ∷ []) same));
+  keeps = keeps_more old.world.script kept after taken.command (definitions_in taken.command ++ shown) (all_defined old (environment_of old.world.names mid) names t taken shown seen h named)
+      (with_own ∙ ap (λ (k : Kept). with_definitions k (definitions_in taken.command ++ shown)) same) pushed;
 }
 
 second_interned : (texts : List (List ℕ)) (at : ℕ) (a b : Tok) (rest : List (FlatToken Tok)) → AreInterned texts (Opening at ∷ Word a ∷ Word b ∷ rest) → b.name < length texts

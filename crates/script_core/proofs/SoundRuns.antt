@@ -7,6 +7,8 @@ use Rattle.lex_core.proofs.NameNumbers.{table_kept}
 use Rattle.lex_core.specs.NameTable.{IsNameTable, with_text}
 use Rattle.lex_core.specs.Token.{Token}
 use Rattle.sexp_core.specs.Sexp.{FlatToken, Opening, Closing, Word, Sexp, flat}
+use Rattle.judgement.specs.Judging.{well_sorted}
+use Rattle.term_grammar.specs.Reads.{byte_of}
 use Rattle.term_store.specs.Command.{PlainCommand, plain_command}
 use Rattle.term_store.specs.Declarations.{Declaration, declared_by, declared_in, number_given}
 use Rattle.term_store.specs.declared.command.TypedCommand.{TypedCommand}
@@ -18,12 +20,14 @@ use Rattle.script_core.specs.declared.refusal.Refusal.{Refusal}
 use Rattle.script_core.specs.Acceptance.{Refuses, Sofar}
 use Rattle.script_core.specs.Environment.{Environment, start}
 use Rattle.script_core.specs.Keeping.{KeepsBelow, KeepsDefined, KeepsEarlier, defined_in}
-use Rattle.script_core.specs.Numbering.{table_after}
+use Rattle.script_core.specs.Numbering.{numbered_sexp, table_after}
+use Rattle.script_core.specs.Rules.{judge_parts, named_by, with_names_given}
 use Rattle.script_core.specs.Steps.{ListSteps, Run, Runs, with_names}
 use Rattle.script_core.proofs.KeptNumbers.{IsNoDatatype, each_kept, kept_below}
 use Rattle.script_core.proofs.SoundNumbers.{ascend_below, ascend_from, distinct_numbers}
-use Rattle.script_core.proofs.SoundSteps.{Declares, IsSoundEnv, IsSoundStep, IsSoundSymbol, parts_step}
-use Rattle.script_core.proofs.StepNumbers.{run_numbered}
+use Rattle.script_core.proofs.SoundNamed.{IsSoundEnv, IsSoundSymbol, names_depth, names_live, names_symbols}
+use Rattle.script_core.proofs.SoundSteps.{Declares, IsSoundStep, parts_step}
+use Rattle.script_core.proofs.StepNumbers.{AreNumberedFrom, declared_split, own_by, parts_begin, parts_numbered, run_numbered}
 
 -- the table stays one after more tokens
 table_stays : (tokens : List (FlatToken Token)) (texts : List (List ℕ)) → IsNameTable texts → IsNameTable (table_after texts tokens)
@@ -32,25 +36,46 @@ table_stays (Opening at ∷ tokens) texts h = table_stays tokens texts h
 table_stays (Closing ∷ tokens) texts h = table_stays tokens texts h
 table_stays (Word token ∷ tokens) texts h = table_stays tokens (with_text texts token.name) (table_kept texts token.name h)
 
-list_step : (script : List Declaration) (env : Environment) (t : Sexp Token) (c : PlainCommand) (new : Environment) → IsSoundEnv script env → ListSteps env t c new → Declares script c → IsSoundStep script env c new
-list_step script env t c new sound (declared, (raw, between, reads, (u, first, form, (v, second, mode, (made, third, parts, (w, fourth, fragment, (e, f))))))) declares =
+each_append : {X : Type 0} (P : X → Type 0) (xs ys : List X) → Each P xs → Each P ys → Each P (xs ++ ys)
+each_append P [] ys h k = k
+each_append P (x ∷ xs) ys h k = (h.0, each_append P xs ys h.1 k)
+
+-- what an accepted command says of itself and of what it leads to
+record IsSoundList (script : List Declaration) (env : Environment) (c : PlainCommand) (after : Environment) : Type 0 where
+  leads : IsSoundEnv script after
+  levels : (cs : List PlainCommand) → KeepsLevels (depth after.declarations) cs → KeepsLevels (depth env.declarations) (c ∷ cs)
+  declarations : Each (IsSoundSymbol script) (declared_by c)
+  command : IsSoundCommand script c
+
+-- the named terms are live
+with_names_live : (script : List Declaration) (env : Environment) (c : PlainCommand) (made : Environment) → IsSoundStep script env c made → AreNumberedFrom made.next (named_by c) → Declares script c
+    → IsSoundList script env c (with_names_given made (defined_in (named_by c)))
+with_names_live script env c made s numbered declares = record {
+  leads = names_live script made.next (named_by c) made numbered s.names (λ d h. declares d (subst (λ (ds : List Declaration). Contains ds d) (sym (declared_split c)) (Contains-append_right (own_by c) (named_by c) d h))) s.leads;
+  levels = λ cs h. s.levels cs (subst (λ (n : ℕ). KeepsLevels n cs) (names_depth made (defined_in (named_by c))) h);
+  declarations = subst (Each (IsSoundSymbol script)) (sym (declared_split c)) (each_append (IsSoundSymbol script) (own_by c) (named_by c) s.declarations (names_symbols script made.next (named_by c) numbered s.names));
+  command = s.command;
+}
+
+list_step : (script : List Declaration) (env : Environment) (t : Sexp Token) (c : PlainCommand) (new : Environment) → IsSoundEnv script env → ListSteps env t c new → Declares script c → IsSoundList script env c new
+list_step script env t c new sound (declared, (raw, between, reads, (made, later, (u, first, form, (v, second, mode, (own, third, parts, (w, fourth, fragment, (g, i))))), (e, f)))) declares =
     let named : IsSoundEnv script (with_names env t) = record {
       signature = record { table = table_stays (flat t) env.names sound.signature.table; sorts = sound.signature.sorts; funs = sound.signature.funs };
       below = sound.below;
     } in
-    let known = subst (λ (p : PlainCommand × Environment). Declares script p.0) e declares in
-    let s = parts_step script (with_names env t) named _ raw made.0 made.1 first second second third mode parts known in
-    subst (λ (p : PlainCommand × Environment). IsSoundStep script env p.0 p.1) (sym e) (record { leads = s.leads; levels = s.levels; declarations = s.declarations; command = s.command })
+    let begins = parts_begin (with_names env t) _ raw _ between first second reads form mode in
+    let numbered = (parts_numbered (with_names env t) _ raw own.0 own.1 third (subst (λ (ns : List ℕ). judge_parts (with_names env t) (byte_of (numbered_sexp (with_names env t).names t)) raw ns (well_sorted own third)) begins parts)).named in
+    let same : c ≡ own.0 = ap (λ (p : PlainCommand × Environment). p.0) e ∙ ap (λ (p : PlainCommand × Environment). p.0) g in
+    let known = subst (Declares script) same declares in
+    let s = with_names_live script (with_names env t) own.0 own.1 (parts_step script (with_names env t) named _ raw own.0 own.1 first second second third mode parts known) numbered known in
+    subst (λ (p : PlainCommand × Environment). IsSoundList script env p.0 p.1) (sym e)
+    (subst (λ (p : PlainCommand × Environment). IsSoundList script env p.0 (with_names_given p.1 (defined_in (named_by p.0)))) (sym g) (record { leads = s.leads; levels = s.levels; declarations = s.declarations; command = s.command }))
 
 -- the commands of a run are sound, where the script declares all that they declare
 pub record IsSoundRun (script : List Declaration) (env : Environment) (commands : List PlainCommand) : Type 0 where
   pub levels : KeepsLevels (depth env.declarations) commands
   pub declarations : Each (IsSoundSymbol script) (declared_in commands)
   pub each : Each (IsSoundCommand script) commands
-
-each_append : {X : Type 0} (P : X → Type 0) (xs ys : List X) → Each P xs → Each P ys → Each P (xs ++ ys)
-each_append P [] ys h k = k
-each_append P (x ∷ xs) ys h k = (h.0, each_append P xs ys h.1 k)
 
 each_of : {X : Type 0} (P Q : X → Type 0) (xs : List X) → ((x : X) → P x → Q x) → Each P xs → Each Q xs
 each_of P Q [] f h = tt
@@ -63,7 +88,7 @@ DeclaresAll script commands = (d : Declaration) → Contains (declared_in comman
 no_commands : (script : List Declaration) (env : Environment) → IsSoundRun script env []
 no_commands script env = record { levels = tt; declarations = tt; each = tt }
 
-one_command : (script : List Declaration) (env after : Environment) (c : PlainCommand) (commands : List PlainCommand) → IsSoundStep script env c after → IsSoundRun script after commands → IsSoundRun script env (c ∷ commands)
+one_command : (script : List Declaration) (env after : Environment) (c : PlainCommand) (commands : List PlainCommand) → IsSoundList script env c after → IsSoundRun script after commands → IsSoundRun script env (c ∷ commands)
 one_command script env after c commands s rest = record {
   levels = s.levels commands rest.levels;
   declarations = each_append (IsSoundSymbol script) (declared_by c) (declared_in commands) s.declarations rest.declarations;

@@ -23,40 +23,34 @@ use Rattle.cmd_grammar.specs.DeclarationViews.{literal_term}
 use Rattle.term_store.specs.Command.{PlainCommand, PlainDef}
 use Rattle.term_store.specs.Command as typed
 use Rattle.term_store.specs.Declarations.{Declaration, declared_by, definition, function_symbol, names_in, names_in_all, number_given}
-use Rattle.term_store.specs.SoundScript.{IsSoundCommand, IsSoundDeclaration, IsSoundDef, IsSoundIn, KeepsLevels}
+use Rattle.term_store.specs.SoundScript.{IsSoundCommand, IsSoundDef, IsSoundIn, KeepsLevels}
 use Rattle.term_store.specs.SoundTerms.{AppliesBelow, AreDistinct, AreSoundVars, HasRankAt, IsSoundSort}
 use Rattle.term_store.specs.Term.{PlainTerm, plain_sort}
 use Rattle.typer.proofs.LiveDeclarations.{Each, all_of_each, each_closed, each_declared, each_global, each_of_all, each_opened}
 use Rattle.typer.proofs.LiveRankSteps.{inst_none, map_none}
-use Rattle.typer.proofs.AppliedNumbers.{AreFunctionsBelow, applies_below}
-use Rattle.typer.proofs.NoNames.{no_names}
-use Rattle.typer.specs.TermRules.{judge_terms}
+use Rattle.typer.proofs.AppliedNumbers.{applies_below}
+use Rattle.typer.proofs.EachNamed.{append_named}
+use Rattle.typer.specs.TermRules.{judge_term, judge_terms}
 use Rattle.typer.proofs.SoundSorts.{sound_sort, sound_sorts}
+use Rattle.typer.proofs.SoundNames.{IsSoundAnywhere, named_sound}
 use Rattle.typer.proofs.SoundTerms.{sound_term}
 use Rattle.typer.specs.Declarations.{Declarations, FunDeclaration, SortDeclaration, defined_sort, depth, free_sort, with_fun, with_global, with_popped, with_pushed, with_sort, without_assertions}
 use Rattle.typer.specs.Soundness.{HasSoundSorts, IsSoundFunction, IsSoundSignature, IsSoundSortSymbol}
-use Rattle.script_core.specs.Environment.{Environment, signature_in, start as start_env, theories_of}
-use Rattle.script_core.specs.Rules.{Header, after_option, defined, is_true, judge_body, judge_bool, judge_header, judge_headers, judge_literals, judge_members, judge_mode, judge_parts, judge_variables, next_number, unchanging, value_of, with_defined_sort, with_free_sort, with_function, with_header, with_headers}
+use Rattle.script_core.specs.Environment.{Environment, signature_from, signature_in, start as start_env, theories_of}
+use Rattle.script_core.specs.Rules.{Header, after_option, defined, is_true, judge_body, judge_bool, judge_header, judge_headers, judge_literals, judge_members, judge_mode, judge_parts, judge_variables, named_by, next_number, unchanging, value_of, with_defined_sort, with_free_sort, with_function, with_header, with_headers}
 use Rattle.typer.specs.TermRules.{attribute_key, attribute_value}
 use Rattle.script_core.proofs.ApartNames.{variables_apart}
-use Rattle.script_core.proofs.KeptNumbers.{IsNoDatatype}
+use Rattle.script_core.proofs.NamedParts.{applies_more, names_below}
+use Rattle.script_core.proofs.SoundNamed.{AreGoodNames, IsSoundEnv, IsSoundSymbol, good_as, no_names}
 use Rattle.script_core.proofs.SoundNumbers.{length-closed, length-declared, length-opened}
-use Rattle.script_core.proofs.StepNumbers.{AreMembers, body_names, group_declares, members_are, terms_names}
+use Rattle.script_core.proofs.StepNumbers.{AreMembers, members_are, own_by}
 
--- a declaration is sound, and is no datatype
-abbrev pub IsSoundSymbol : List Declaration → Declaration → Type 0
-IsSoundSymbol script d = IsSoundDeclaration script d × IsNoDatatype d
-
--- the signature is sound, and each live function has a number below the next one
-pub record IsSoundEnv (script : List Declaration) (env : Environment) : Type 0 where
-  pub signature : IsSoundSignature script (signature_in env)
-  pub below : AreFunctionsBelow env.next env.declarations
-
--- what an accepted command says of itself and of what it leads to
+-- what the parts of an accepted command say of it, before its named terms are live, and of what they lead to
 pub record IsSoundStep (script : List Declaration) (env : Environment) (c : PlainCommand) (after : Environment) : Type 0 where
   pub leads : IsSoundEnv script after
   pub levels : (cs : List PlainCommand) → KeepsLevels (depth after.declarations) cs → KeepsLevels (depth env.declarations) (c ∷ cs)
-  pub declarations : Each (IsSoundSymbol script) (declared_by c)
+  pub declarations : Each (IsSoundSymbol script) (own_by c)
+  pub names : AreGoodNames script after.next (named_by c)
   pub command : IsSoundCommand script c
 
 -- the script declares all that the command declares
@@ -80,6 +74,13 @@ step_of script env c d after new e sound declares =
 
 none_of : (P : Declaration → Type 0) (ds : List Declaration) → ds ≡ [] → Each P ds
 none_of P ds e = subst (λ (l : List Declaration). Each P l) (sym e) tt
+
+-- the number of the first name that a command declares plays no part
+signature_sound : (script : List Declaration) (first : ℕ) (env : Environment) → IsSoundEnv script env → IsSoundSignature script (signature_from first env)
+signature_sound script first env sound = record { table = sound.signature.table; sorts = sound.signature.sorts; funs = sound.signature.funs }
+
+good_append : (script : List Declaration) (n : ℕ) (ds es : List Declaration) → AreGoodNames script n ds → AreGoodNames script n es → AreGoodNames script n (ds ++ es)
+good_append script n ds es h k = record { sound = append_named (IsSoundAnywhere script) ds es h.sound k.sound; lower = append_named (AppliesBelow n) ds es h.lower k.lower }
 
 -- what a definition says before its body is sound
 pub record IsSoundHeader (script : List Declaration) (h : Header) : Type 0 where
@@ -129,26 +130,38 @@ headers_sound script env sorts (f ∷ fs) hs before after (h, between, j, (rest,
     subst (AreSoundHeaders script env.next) (sym e) (head.0, head.1, headers_sound script (with_header env h) sorts fs rest between later k)
 
 -- the body of a definition, under the functions that are live
-definition_in : (script : List Declaration) (env : Environment) → IsSoundEnv script env → (h : Header) (t : Term) (u : PlainTerm) (recursive : Bool) (before after : List ℕ) → IsSoundHeader script h → (recursive ≡ false → h.no.0 ≡ env.next)
-    → judge_body env h t before (well_sorted u after) → IsSoundDef script (defined h recursive u)
-definition_in script env sound h t u recursive before after head number (v, between, j, (w, later, k, (e, f))) =
+definition_in : (script : List Declaration) (first : ℕ) (env : Environment) → IsSoundEnv script env → (h : Header) (t : Term) (u : PlainTerm) (recursive : Bool) (before after : List ℕ) → IsSoundHeader script h → (recursive ≡ false → h.no.0 ≡ env.next)
+    → judge_body first env h t before (well_sorted u after) → IsSoundDef script (defined h recursive u)
+definition_in script first env sound h t u recursive before after head number (v, between, j, (w, later, k, (e, f))) =
     subst (λ (x : PlainTerm). IsSoundDef script (defined h recursive x)) (sym e) (record {
       params_distinct = head.apart;
       param_sorts = all_of_each (λ (x : ℕ × Sort). IsSoundSort script 0 x.1) h.params (vars_each script h.params head.params);
       result_sort = head.result;
-      body = sound_term script (signature_in env) sound.signature t h.params head.params v before between j;
+      body = sound_term script (signature_from first env) (signature_sound script first env sound) t h.params head.params v before between j;
       body_sort = k.0;
-      lower = λ plain. subst (λ (n : ℕ). AppliesBelow n v) (sym (number plain)) (applies_below env.next (signature_in env) sound.below t h.params v before between j);
+      lower = λ plain. subst (λ (n : ℕ). AppliesBelow n v) (sym (number plain)) (applies_below env.next (signature_from first env) sound.below t h.params v before between j);
     })
 
-members_sound : (script : List Declaration) (env : Environment) → IsSoundEnv script env → (at n : ℕ) (hs : List Header) (ts : Terms) (ds : List PlainDef) (before after : List ℕ) → AreSoundHeaders script n hs
-    → judge_members env at hs ts before (well_sorted ds after) → Each (IsSoundDef script) ds
-members_sound script env sound at n [] ts ds before after heads (e, f) = subst (Each (IsSoundDef script)) (sym e) tt
-members_sound script env sound at n (h ∷ hs) no_terms ds before after heads j = absurd j
-members_sound script env sound at n (h ∷ hs) (with_term t ts) ds before after heads (d, between, (u, middle, j, (e, f)), (rest, later, k, (g, i))) =
-    subst (Each (IsSoundDef script)) (sym g) (
-      subst (IsSoundDef script) (sym e) (definition_in script env sound h t u true before middle heads.0 (λ plain. absurd (false≢true (sym plain))) j),
-      members_sound script env sound at (n + 1) hs ts rest between later heads.2 k,
+-- .. with the terms named in it
+body_names : (script : List Declaration) (first : ℕ) (env : Environment) → IsSoundEnv script env → (h : Header) (t : Term) (u : PlainTerm) (before after : List ℕ) (top : ℕ) → IsSoundHeader script h → env.next ≤ top
+    → judge_body first env h t before (well_sorted u after) → AreGoodNames script top (names_in u)
+body_names script first env sound h t u before after top head l (v, between, j, (w, later, k, (e, f))) =
+    good_as script top (names_in v) (names_in u) (ap names_in e) (record {
+      sound = named_sound script (signature_from first env) (signature_sound script first env sound) t h.params head.params v before between j;
+      lower = λ d m x c. applies_more env.next top l x (names_below env.next v (applies_below env.next (signature_from first env) sound.below t h.params v before between j) d m x c);
+    })
+
+members_sound : (script : List Declaration) (first : ℕ) (env : Environment) → IsSoundEnv script env → (at n : ℕ) (hs : List Header) (ts : Terms) (ds : List PlainDef) (before after : List ℕ) → AreSoundHeaders script n hs
+    → judge_members first env at hs ts before (well_sorted ds after) → Each (IsSoundDef script) ds × AreGoodNames script env.next (names_in_all (map (λ (d : PlainDef). d.body) ds))
+members_sound script first env sound at n [] ts ds before after heads (e, f) =
+    subst (λ (xs : List PlainDef). Each (IsSoundDef script) xs × AreGoodNames script env.next (names_in_all (map (λ (d : PlainDef). d.body) xs))) (sym e) (tt, no_names script env.next)
+members_sound script first env sound at n (h ∷ hs) no_terms ds before after heads j = absurd j
+members_sound script first env sound at n (h ∷ hs) (with_term t ts) ds before after heads (d, between, (u, middle, j, (e, f)), (rest, later, k, (g, i))) =
+    let others = members_sound script first env sound at (n + 1) hs ts rest between later heads.2 k in
+    let own = body_names script first env sound h t u before middle env.next heads.0 (omega arith) j in
+    subst (λ (xs : List PlainDef). Each (IsSoundDef script) xs × AreGoodNames script env.next (names_in_all (map (λ (x : PlainDef). x.body) xs))) (sym g) (
+      (subst (IsSoundDef script) (sym e) (definition_in script first env sound h t u true before middle heads.0 (λ plain. absurd (false≢true (sym plain))) j), others.0),
+      good_append script env.next (names_in d.body) (names_in_all (map (λ (x : PlainDef). x.body) rest)) (good_as script env.next (names_in u) (names_in d.body) (ap (λ (x : PlainDef). names_in x.body) e) own) others.1,
     )
 
 symbols_of : (script : List Declaration) (ds : List PlainDef) → Each (IsSoundDef script) ds → Each (IsSoundSymbol script) (map definition ds)
@@ -194,11 +207,12 @@ module _ (script : List Declaration) (env : Environment) (sound : IsSoundEnv scr
 
   -- a command that declares nothing and leaves the levels as they are
   quiet : (c : PlainCommand) (after : Environment) → IsSoundEnv script after → ((cs : List PlainCommand) → KeepsLevels (depth after.declarations) cs → KeepsLevels (depth env.declarations) (c ∷ cs))
-      → declared_by c ≡ [] → IsSoundCommand script c → IsSoundStep script env c after
-  quiet c after leads levels none command = record {
+      → own_by c ≡ [] → AreGoodNames script after.next (named_by c) → IsSoundCommand script c → IsSoundStep script env c after
+  quiet c after leads levels none names command = record {
     leads = leads;
     levels = levels;
-    declarations = none_of (IsSoundSymbol script) (declared_by c) none;
+    declarations = none_of (IsSoundSymbol script) (own_by c) none;
+    names = names;
     command = command;
   }
 
@@ -228,21 +242,24 @@ module _ (script : List Declaration) (env : Environment) (sound : IsSoundEnv scr
       sound_with next (with_sort name d env.declarations) (all_of_each OfSort _ (each_declared OfSort env.declarations.global (name, d) env.declarations.sorts h sorts_each)) (all_of_each (OfFun next) _ (funs_each next l))
 
   -- a function symbol takes the next number
-  function_step : (c : PlainCommand) (name : ℕ) (args : List Sort) (result : Sort) (its : Declaration) → declared_by c ≡ its ∷ [] → All (IsSoundSort script 0) args → IsSoundSort script 0 result
+  function_step : (c : PlainCommand) (name : ℕ) (args : List Sort) (result : Sort) (its : Declaration) → own_by c ≡ its ∷ [] → AreGoodNames script (env.next + 1) (named_by c) → All (IsSoundSort script 0) args → IsSoundSort script 0 result
       → number_given its ≡ env.next → ((values : List Sort) → length values ≡ 0 → HasRankAt its values (map (inst values) args) (inst values result)) → IsSoundSymbol script its
-      → ((cs : List PlainCommand) (n : ℕ) → KeepsLevels n cs → KeepsLevels n (c ∷ cs)) → IsSoundCommand script c → Declares script c → IsSoundStep script env c (with_function env name args result)
-  function_step c name args result its is args_sound result_sound number ranks symbol same command declares = record {
-    leads = function_declared name args result its args_sound result_sound (declares its (subst (λ (l : List Declaration). Contains l its) (sym is) (first_of its []))) number ranks;
+      → ((cs : List PlainCommand) (n : ℕ) → KeepsLevels n cs → KeepsLevels n (c ∷ cs)) → IsSoundCommand script c → Contains script its → IsSoundStep script env c (with_function env name args result)
+  function_step c name args result its is names args_sound result_sound number ranks symbol same command declared = record {
+    leads = function_declared name args result its args_sound result_sound declared number ranks;
     levels = λ cs h. same cs (depth env.declarations) (subst (λ (n : ℕ). KeepsLevels n cs) (length-declared env.declarations.global _ env.declarations.funs) h);
     declarations = subst (λ (l : List Declaration). Each (IsSoundSymbol script) l) (sym is) (symbol, tt);
+    names = names;
     command = command;
   }
 
   -- a declared function
-  symbol_step : (c : PlainCommand) (name : ℕ) (args : List Sort) (result : Sort) → declared_by c ≡ function_symbol (next_number env) name args result ∷ [] → All (IsSoundSort script 0) args → IsSoundSort script 0 result
-      → ((cs : List PlainCommand) (n : ℕ) → KeepsLevels n cs → KeepsLevels n (c ∷ cs)) → IsSoundCommand script c → Declares script c → IsSoundStep script env c (with_function env name args result)
-  symbol_step c name args result is args_sound result_sound same command declares =
-      function_step c name args result (function_symbol (next_number env) name args result) is args_sound result_sound refl (λ values e. function_ranks args result values e) ((args_sound, result_sound), tt) same command declares
+  symbol_step : (c : PlainCommand) (name : ℕ) (args : List Sort) (result : Sort) → own_by c ≡ function_symbol (next_number env) name args result ∷ [] → named_by c ≡ [] → All (IsSoundSort script 0) args → IsSoundSort script 0 result
+      → ((cs : List PlainCommand) (n : ℕ) → KeepsLevels n cs → KeepsLevels n (c ∷ cs)) → IsSoundCommand script c → Contains script (function_symbol (next_number env) name args result)
+      → IsSoundStep script env c (with_function env name args result)
+  symbol_step c name args result is none args_sound result_sound same command declared =
+      function_step c name args result (function_symbol (next_number env) name args result) is (good_as script (env.next + 1) [] (named_by c) none (no_names script (env.next + 1))) args_sound result_sound refl
+      (λ values e. function_ranks args result values e) ((args_sound, result_sound), tt) same command declared
 
   -- a sort symbol takes the next number
   free_sort_step : (name arity : ℕ) → IsSoundStep script env (typed.declare_sort (next_number env) name arity) (with_free_sort env name arity)
@@ -250,39 +267,40 @@ module _ (script : List Declaration) (env : Environment) (sound : IsSoundEnv scr
     leads = sort_declared (env.next + 1) name (free_sort (next_number env) arity) (omega arith) tt;
     levels = λ cs h. h;
     declarations = ((tt, tt), tt);
+    names = no_names script (env.next + 1);
     command = tt;
   }
 
   -- a defined sort takes none
   defined_sort_step : (name count : ℕ) (ps : List ℕ) (body : Sort) → length ps ≡ count → IsSoundSort script (length ps) body → IsSoundStep script env (typed.define_sort name ps body) (with_defined_sort env name count body)
   defined_sort_step name count ps body e h =
-      quiet (typed.define_sort name ps body) (with_defined_sort env name count body) (sort_declared env.next name (defined_sort count body) (omega arith) (subst (λ (n : ℕ). IsSoundSort script n body) e h)) (λ cs k. k) refl h
+      quiet (typed.define_sort name ps body) (with_defined_sort env name count body) (sort_declared env.next name (defined_sort count body) (omega arith) (subst (λ (n : ℕ). IsSoundSort script n body) e h)) (λ cs k. k) refl (no_names script env.next) h
 
   -- levels are opened and closed
   push_step : (n : ℕ) → depth env.declarations + n ≤ 65535 → IsSoundStep script env (typed.push n) (record env { declarations = with_pushed n env.declarations })
   push_step n few =
       quiet (typed.push n) (record env { declarations = with_pushed n env.declarations })
       (sound_with env.next (with_pushed n env.declarations) (all_of_each OfSort _ (each_opened OfSort n env.declarations.sorts sorts_each)) (all_of_each (OfFun env.next) _ (each_opened (OfFun env.next) n env.declarations.funs funs_now)))
-      (λ cs h. (few, subst (λ (m : ℕ). KeepsLevels m cs) (length-opened n env.declarations.funs) h)) refl tt
+      (λ cs h. (few, subst (λ (m : ℕ). KeepsLevels m cs) (length-opened n env.declarations.funs) h)) refl (no_names script env.next) tt
 
   pop_step : (n : ℕ) → n ≤ depth env.declarations → IsSoundStep script env (typed.pop n) (record env { declarations = with_popped n env.declarations })
   pop_step n enough =
       quiet (typed.pop n) (record env { declarations = with_popped n env.declarations })
       (sound_with env.next (with_popped n env.declarations) (all_of_each OfSort _ (each_closed OfSort n env.declarations.sorts sorts_each)) (all_of_each (OfFun env.next) _ (each_closed (OfFun env.next) n env.declarations.funs funs_now)))
-      (λ cs h. (enough, subst (λ (m : ℕ). KeepsLevels m cs) (length-closed n env.declarations.funs) h)) refl tt
+      (λ cs h. (enough, subst (λ (m : ℕ). KeepsLevels m cs) (length-closed n env.declarations.funs) h)) refl (no_names script env.next) tt
 
   reset_step : IsSoundStep script env typed.reset (record start_env { names = env.names; next = env.next })
   reset_step =
       quiet typed.reset (record start_env { names = env.names; next = env.next }) (record {
         signature = record { table = sound.signature.table; sorts = all_of_each OfSort [] tt; funs = all_of_each (λ (d : ℕ × FunDeclaration). IsSoundFunction script d.1) [] tt };
         below = all_of_each (λ (d : ℕ × FunDeclaration). d.1.number.0 < env.next) [] tt;
-      }) (λ cs h. h) refl tt
+      }) (λ cs h. h) refl (no_names script env.next) tt
 
   forgotten_step : IsSoundStep script env typed.reset_assertions (record env { declarations = without_assertions env.declarations })
   forgotten_step =
       quiet typed.reset_assertions (record env { declarations = without_assertions env.declarations })
       (sound_with env.next (without_assertions env.declarations) (all_of_each OfSort _ (each_global OfSort env.declarations.sorts sorts_each)) (all_of_each (OfFun env.next) _ (each_global (OfFun env.next) env.declarations.funs funs_now)))
-      (λ cs h. h) refl tt
+      (λ cs h. h) refl (no_names script env.next) tt
 
   -- a flag declares nothing
   option_sound : (a : Attribute) → IsSoundEnv script (after_option env a)
@@ -301,31 +319,42 @@ module _ (script : List Declaration) (env : Environment) (sound : IsSoundEnv scr
 
   option_step : (a : Attribute) (key : ℕ) (value : Option (Sexp Tok)) → IsSoundStep script env (typed.set_option key value) (after_option env a)
   option_step a key value =
-      quiet (typed.set_option key value) (after_option env a) (option_sound a) (λ cs h. subst (λ (n : ℕ). KeepsLevels n cs) (option_depth a) h) refl tt
+      quiet (typed.set_option key value) (after_option env a) (option_sound a) (λ cs h. subst (λ (n : ℕ). KeepsLevels n cs) (option_depth a) h) refl (no_names script (after_option env a).next) tt
 
   -- a command that changes nothing
-  same_step : (c : PlainCommand) → ((cs : List PlainCommand) (n : ℕ) → KeepsLevels n cs → KeepsLevels n (c ∷ cs)) → declared_by c ≡ [] → IsSoundCommand script c → IsSoundStep script env c env
-  same_step c same none command = quiet c env sound (λ cs h. same cs (depth env.declarations) h) none command
+  same_step : (c : PlainCommand) → ((cs : List PlainCommand) (n : ℕ) → KeepsLevels n cs → KeepsLevels n (c ∷ cs)) → own_by c ≡ [] → named_by c ≡ [] → IsSoundCommand script c → IsSoundStep script env c env
+  same_step c same none unnamed command = quiet c env sound (λ cs h. same cs (depth env.declarations) h) none (good_as script env.next [] (named_by c) unnamed (no_names script env.next)) command
+
+  -- a term with the terms named in it
+  term_names : (t : Term) (u : PlainTerm) (before after : List ℕ) → judge_term (signature_in env) [] t before (well_sorted u after) → AreGoodNames script env.next (names_in u)
+  term_names t u before after h = record {
+    sound = named_sound script (signature_in env) sound.signature t [] tt u before after h;
+    lower = names_below env.next u (applies_below env.next (signature_in env) sound.below t [] u before after h);
+  }
 
   -- terms of sort Bool
-  bool_sound : (t : Term) (u : PlainTerm) (before after : List ℕ) → judge_bool env t before (well_sorted u after) → IsSoundIn script u × (plain_sort u ≡ bool) × (names_in u ≡ [])
+  bool_sound : (t : Term) (u : PlainTerm) (before after : List ℕ) → judge_bool env t before (well_sorted u after) → IsSoundIn script u × (plain_sort u ≡ bool) × AreGoodNames script env.next (names_in u)
   bool_sound t u before after (v, between, h, (w, later, k, (e, f))) =
-      let ok : IsSoundIn script v × (plain_sort v ≡ bool) × (names_in v ≡ []) =
-      (sound_term script (signature_in env) sound.signature t [] tt v before between h, k.0, no_names (signature_in env) t [] v before between h) in
-      subst (λ (x : PlainTerm). IsSoundIn script x × (plain_sort x ≡ bool) × (names_in x ≡ [])) (sym e) ok
+      let ok : IsSoundIn script v × (plain_sort v ≡ bool) × AreGoodNames script env.next (names_in v) =
+      (sound_term script (signature_in env) sound.signature t [] tt v before between h, k.0, term_names t v before between h) in
+      subst (λ (x : PlainTerm). IsSoundIn script x × (plain_sort x ≡ bool) × AreGoodNames script env.next (names_in x)) (sym e) ok
 
-  literals_sound : (ls : List Literal) (us : List PlainTerm) (before after : List ℕ) → judge_literals env ls before (well_sorted us after) → Each (IsSoundIn script) us × (names_in_all us ≡ [])
-  literals_sound [] us before after (e, f) = subst (λ (xs : List PlainTerm). Each (IsSoundIn script) xs × (names_in_all xs ≡ [])) (sym e) (tt, refl)
+  abbrev AreSoundAll : List PlainTerm → Type 0
+  AreSoundAll us = Each (IsSoundIn script) us × AreGoodNames script env.next (names_in_all us)
+
+  literals_sound : (ls : List Literal) (us : List PlainTerm) (before after : List ℕ) → judge_literals env ls before (well_sorted us after) → AreSoundAll us
+  literals_sound [] us before after (e, f) = subst AreSoundAll (sym e) (tt, no_names script env.next)
   literals_sound (l ∷ ls) us before after (u, between, h, (vs, later, k, (e, f))) =
       let first = bool_sound (literal_term l) u before between h in
       let rest = literals_sound ls vs between later k in
-      subst (λ (xs : List PlainTerm). Each (IsSoundIn script) xs × (names_in_all xs ≡ [])) (sym e)
-      ((first.0, rest.0), ap (λ (ds : List Declaration). ds ++ names_in_all vs) first.2 ∙ rest.1)
+      subst AreSoundAll (sym e) ((first.0, rest.0), good_append script env.next (names_in u) (names_in_all vs) first.2 rest.1)
 
-  terms_sound : (ts : Terms) (us : List PlainTerm) (before after : List ℕ) → judge_terms (signature_in env) [] ts before (well_sorted us after) → Each (IsSoundIn script) us
-  terms_sound no_terms us before after (e, f) = subst (Each (IsSoundIn script)) (sym e) tt
+  terms_sound : (ts : Terms) (us : List PlainTerm) (before after : List ℕ) → judge_terms (signature_in env) [] ts before (well_sorted us after) → AreSoundAll us
+  terms_sound no_terms us before after (e, f) = subst AreSoundAll (sym e) (tt, no_names script env.next)
   terms_sound (with_term t ts) us before after (u, between, h, (vs, later, k, (e, f))) =
-      subst (Each (IsSoundIn script)) (sym e) (sound_term script (signature_in env) sound.signature t [] tt u before between h, terms_sound ts vs between later k)
+      let rest = terms_sound ts vs between later k in
+      subst AreSoundAll (sym e)
+      ((sound_term script (signature_in env) sound.signature t [] tt u before between h, rest.0), good_append script env.next (names_in u) (names_in_all vs) (term_names t u before between h) rest.1)
 
   var_sorts : (vs : List (ℕ × Sort)) → AreSoundVars script vs → Each (IsSoundSort script 0) (map (λ v. v.1) vs)
   var_sorts [] h = tt
@@ -342,29 +371,29 @@ module _ (script : List Declaration) (env : Environment) (sound : IsSoundEnv scr
       (defined_ranks h recursive u)
 
   -- the command defines this function alone
-  definition_step : (c : PlainCommand) (h : Header) (recursive : Bool) (u : PlainTerm) → declared_by c ≡ definition (defined h recursive u) ∷ names_in u → names_in u ≡ [] → IsSoundHeader script h → h.no ≡ next_number env
-      → ((cs : List PlainCommand) (n : ℕ) → KeepsLevels n cs → KeepsLevels n (c ∷ cs)) → IsSoundCommand script c → IsSoundDef script (defined h recursive u) → Declares script c → IsSoundStep script env c (with_header env h)
-  definition_step c h recursive u is bare head number same command def declares =
-      function_step c h.name (map (λ v. v.1) h.params) h.result (definition (defined h recursive u)) (is ∙ ap (λ (ds : List Declaration). definition (defined h recursive u) ∷ ds) bare)
-      (all_of_each (IsSoundSort script 0) _ (var_sorts h.params head.params)) head.result (ap (λ (n : DeclNo). n.0) number) (defined_ranks h recursive u) (def, tt) same command declares
+  definition_step : (c : PlainCommand) (h : Header) (recursive : Bool) (u : PlainTerm) → own_by c ≡ definition (defined h recursive u) ∷ [] → AreGoodNames script (env.next + 1) (named_by c) → IsSoundHeader script h → h.no ≡ next_number env
+      → ((cs : List PlainCommand) (n : ℕ) → KeepsLevels n cs → KeepsLevels n (c ∷ cs)) → IsSoundCommand script c → IsSoundDef script (defined h recursive u) → Contains script (definition (defined h recursive u)) → IsSoundStep script env c (with_header env h)
+  definition_step c h recursive u is names head number same command def declared =
+      function_step c h.name (map (λ v. v.1) h.params) h.result (definition (defined h recursive u)) is names
+      (all_of_each (IsSoundSort script 0) _ (var_sorts h.params head.params)) head.result (ap (λ (n : DeclNo). n.0) number) (defined_ranks h recursive u) (def, tt) same command declared
 
   is_same : (c d : PlainCommand) → Some c ≡ Some d → IsSoundStep script env c env → IsSoundStep script env d env
   is_same c d e h = let same : c ≡ d = cc in subst (λ (x : PlainCommand). IsSoundStep script env x env) same h
 
   -- the commands that change nothing
   unchanging_step : (raw : Command) (c : PlainCommand) → unchanging raw ≡ Some c → IsSoundStep script env c env
-  unchanging_step check_sat c e = is_same typed.check_sat c e (same_step typed.check_sat (λ cs n h. h) refl tt)
-  unchanging_step (echo t) c e = is_same (typed.echo t.name) c e (same_step (typed.echo t.name) (λ cs n h. h) refl tt)
-  unchanging_step exit c e = is_same typed.exit c e (same_step typed.exit (λ cs n h. h) refl tt)
-  unchanging_step get_assertions c e = is_same typed.get_assertions c e (same_step typed.get_assertions (λ cs n h. h) refl tt)
-  unchanging_step get_assignment c e = is_same typed.get_assignment c e (same_step typed.get_assignment (λ cs n h. h) refl tt)
-  unchanging_step (get_info k) c e = is_same (typed.get_info k.name) c e (same_step (typed.get_info k.name) (λ cs n h. h) refl tt)
-  unchanging_step get_model c e = is_same typed.get_model c e (same_step typed.get_model (λ cs n h. h) refl tt)
-  unchanging_step (get_option k) c e = is_same (typed.get_option k.name) c e (same_step (typed.get_option k.name) (λ cs n h. h) refl tt)
-  unchanging_step get_proof c e = is_same typed.get_proof c e (same_step typed.get_proof (λ cs n h. h) refl tt)
-  unchanging_step get_unsat_assumptions c e = is_same typed.get_unsat_assumptions c e (same_step typed.get_unsat_assumptions (λ cs n h. h) refl tt)
-  unchanging_step get_unsat_core c e = is_same typed.get_unsat_core c e (same_step typed.get_unsat_core (λ cs n h. h) refl tt)
-  unchanging_step (set_info a) c e = is_same (typed.set_info (attribute_key a).name (attribute_value a)) c e (same_step (typed.set_info (attribute_key a).name (attribute_value a)) (λ cs n h. h) refl tt)
+  unchanging_step check_sat c e = is_same typed.check_sat c e (same_step typed.check_sat (λ cs n h. h) refl refl tt)
+  unchanging_step (echo t) c e = is_same (typed.echo t.name) c e (same_step (typed.echo t.name) (λ cs n h. h) refl refl tt)
+  unchanging_step exit c e = is_same typed.exit c e (same_step typed.exit (λ cs n h. h) refl refl tt)
+  unchanging_step get_assertions c e = is_same typed.get_assertions c e (same_step typed.get_assertions (λ cs n h. h) refl refl tt)
+  unchanging_step get_assignment c e = is_same typed.get_assignment c e (same_step typed.get_assignment (λ cs n h. h) refl refl tt)
+  unchanging_step (get_info k) c e = is_same (typed.get_info k.name) c e (same_step (typed.get_info k.name) (λ cs n h. h) refl refl tt)
+  unchanging_step get_model c e = is_same typed.get_model c e (same_step typed.get_model (λ cs n h. h) refl refl tt)
+  unchanging_step (get_option k) c e = is_same (typed.get_option k.name) c e (same_step (typed.get_option k.name) (λ cs n h. h) refl refl tt)
+  unchanging_step get_proof c e = is_same typed.get_proof c e (same_step typed.get_proof (λ cs n h. h) refl refl tt)
+  unchanging_step get_unsat_assumptions c e = is_same typed.get_unsat_assumptions c e (same_step typed.get_unsat_assumptions (λ cs n h. h) refl refl tt)
+  unchanging_step get_unsat_core c e = is_same typed.get_unsat_core c e (same_step typed.get_unsat_core (λ cs n h. h) refl refl tt)
+  unchanging_step (set_info a) c e = is_same (typed.set_info (attribute_key a).name (attribute_value a)) c e (same_step (typed.set_info (attribute_key a).name (attribute_value a)) (λ cs n h. h) refl refl tt)
   unchanging_step raw c e = cc
 
   found_step : (raw : Command) (at : ℕ) (c : PlainCommand) (new : Environment) (before after : List ℕ)
@@ -379,14 +408,16 @@ group_live script (h ∷ hs) (d ∷ ds) env sound heads members declares =
     group_live script hs ds (with_header env h) (header_live script env sound h d.body true heads.0 heads.1 (subst (λ (x : PlainDef). Contains script (definition x)) members.0 declares.0)) heads.2 members.1 declares.1
 
 module _ (script : List Declaration) (env : Environment) (sound : IsSoundEnv script env) where
-  group_step : (at : ℕ) (fs : List FunDec) (hs : List Header) (ts : Terms) (ds : List PlainDef) (before between after : List ℕ) → judge_headers env fs before (well_sorted hs between)
-      → judge_members (with_headers env hs) at hs ts between (well_sorted ds after) → Declares script (typed.define_funs_rec ds) → IsSoundStep script env (typed.define_funs_rec ds) (with_headers env hs)
-  group_step at fs hs ts ds before between after headed j declares =
+  group_step : (at : ℕ) (fs : List FunDec) (hs : List Header) (ts : Terms) (ds : List PlainDef) (before between start after : List ℕ) → judge_headers env fs before (well_sorted hs between)
+      → judge_members env.next (with_headers env hs) at hs ts start (well_sorted ds after) → Declares script (typed.define_funs_rec ds) → IsSoundStep script env (typed.define_funs_rec ds) (with_headers env hs)
+  group_step at fs hs ts ds before between start after headed j declares =
       let heads = headers_sound script env sound.signature.sorts fs hs before between headed in
-      let live = group_live script hs ds env sound heads (members_are (with_headers env hs) at hs ts ds between after j) (each_declared_in script ds (names_in_all (map (λ (d : PlainDef). d.body) ds)) declares) in record {
+      let live = group_live script hs ds env sound heads (members_are env.next (with_headers env hs) at hs ts ds start after j) (each_declared_in script ds (names_in_all (map (λ (d : PlainDef). d.body) ds)) declares) in
+      let members = members_sound script env.next (with_headers env hs) live at env.next hs ts ds start after heads j in record {
         leads = live;
         levels = λ cs h. subst (λ (n : ℕ). KeepsLevels n cs) (group_depth env hs) h;
-        declarations = subst (Each (IsSoundSymbol script)) (sym (group_declares (with_headers env hs) at hs ts ds between after j)) (symbols_of script ds (members_sound script (with_headers env hs) live at env.next hs ts ds between after heads j));
+        declarations = symbols_of script ds members.0;
+        names = members.1;
         command = tt;
       }
 
@@ -394,45 +425,47 @@ module _ (script : List Declaration) (env : Environment) (sound : IsSoundEnv scr
   pub parts_step : (at : ℕ) (raw : Command) (c : PlainCommand) (new : Environment) (first second before after : List ℕ) → judge_mode env at raw first (well_sorted tt second)
       → judge_parts env at raw before (well_sorted (c, new) after) → Declares script c → IsSoundStep script env c new
   parts_step at (assert t) c new first second before after mode (u, between, h, (e, f)) declares =
-      let b = bool_sound script env sound t u before between h in step_of script env c (typed.assert u) new env e (λ known. quiet script env sound (typed.assert u) env sound (λ cs k. k) b.2 (b.0, b.1)) declares
+      let b = bool_sound script env sound t u before between h in step_of script env c (typed.assert u) new env e (λ known. quiet script env sound (typed.assert u) env sound (λ cs k. k) refl b.2 (b.0, b.1)) declares
   parts_step at (check_sat_assuming ls) c new first second before after mode (us, between, h, (e, f)) declares =
       let l = literals_sound script env sound ls us before between h in
-      step_of script env c (typed.check_sat_assuming us) new env e (λ known. quiet script env sound (typed.check_sat_assuming us) env sound (λ cs k. k) l.1 (all_of_each (IsSoundIn script) us l.0)) declares
+      step_of script env c (typed.check_sat_assuming us) new env e (λ known. quiet script env sound (typed.check_sat_assuming us) env sound (λ cs k. k) refl l.1 (all_of_each (IsSoundIn script) us l.0)) declares
   parts_step at (declare_const n s) c new first second before after mode (w, start, k, (result, later, h, (e, f))) declares =
       let r = sound_sort script env.names env.declarations env.theories [] sound.signature.sorts s result start later h in
       step_of script env c (typed.declare_const (next_number env) n.name result) new (with_function env n.name [] result) e
-      (λ known. symbol_step script env sound (typed.declare_const (next_number env) n.name result) n.name [] result refl (all_of_each (IsSoundSort script 0) [] tt) r (λ cs m l. l) tt known) declares
+      (λ known. symbol_step script env sound (typed.declare_const (next_number env) n.name result) n.name [] result refl refl (all_of_each (IsSoundSort script 0) [] tt) r (λ cs m l. l) tt (known _ (first_of _ []))) declares
   parts_step at (declare_fun n ss s) c new first second before after mode (w, start, k, (args, between, given, (result, later, h, (e, f)))) declares =
       let a = sound_sorts script env.names env.declarations env.theories [] sound.signature.sorts ss args start between given in
       let r = sound_sort script env.names env.declarations env.theories [] sound.signature.sorts s result between later h in
       step_of script env c (typed.declare_fun (next_number env) n.name args result) new (with_function env n.name args result) e
-      (λ known. symbol_step script env sound (typed.declare_fun (next_number env) n.name args result) n.name args result refl a r (λ cs m l. l) tt known) declares
+      (λ known. symbol_step script env sound (typed.declare_fun (next_number env) n.name args result) n.name args result refl refl a r (λ cs m l. l) tt (known _ (first_of _ []))) declares
   parts_step at (declare_sort n a) c new first second before after mode (w, start, k, (v, later, h, (e, f))) declares =
       step_of script env c (typed.declare_sort (next_number env) n.name (value_of env a)) new (with_free_sort env n.name (value_of env a)) e (λ known. free_sort_step script env sound n.name (value_of env a)) declares
   parts_step at (define_sort n ps s) c new first second before after mode (w, start, k, (v, between, apart, (body, later, h, (e, f)))) declares =
       let ids = map (λ (p : Tok). p.name) ps in
       let b = sound_sort script env.names env.declarations env.theories ids sound.signature.sorts s body between later h in
       step_of script env c (typed.define_sort n.name ids body) new (with_defined_sort env n.name (length ps) body) e (λ known. defined_sort_step script env sound n.name (length ps) ids body (length-map ps _) b) declares
-  parts_step at (define_fun raw) c new first second before after mode (h, start, j, (u, later, k, (e, f))) declares =
+  parts_step at (define_fun raw) c new first second before after mode (h, start, j, (w, named, declared, (u, later, k, (e, f)))) declares =
       let head = header_sound script env sound.signature.sorts raw.name raw.params raw.result h before start j in
       let d = typed.define_fun (defined h false u) in
       step_of script env c d new (with_header env h) e
-      (λ known. definition_step script env sound d h false u refl (body_names env h raw.body u start later k) head.0 head.1 (λ cs m l. l) tt
-      (definition_in script env sound h raw.body u false start later head.0 (λ plain. ap (λ (n : DeclNo). n.0) head.1) k) known) declares
-  parts_step at (define_fun_rec raw) c new first second before after mode (h, start, j, (u, later, k, (e, f))) declares =
+      (λ known. definition_step script env sound d h false u refl (body_names script env.next env sound h raw.body u named later (env.next + 1) head.0 (omega arith) k) head.0 head.1 (λ cs m l. l) tt
+      (definition_in script env.next env sound h raw.body u false named later head.0 (λ plain. ap (λ (n : DeclNo). n.0) head.1) k) (known _ (first_of (definition (defined h false u)) (names_in u)))) declares
+  parts_step at (define_fun_rec raw) c new first second before after mode (h, start, j, (w, named, declared, (u, later, k, (e, f)))) declares =
       let head = header_sound script env sound.signature.sorts raw.name raw.params raw.result h before start j in
       let d = typed.define_fun_rec (defined h true u) in
       step_of script env c d new (with_header env h) e
-      (λ known. definition_step script env sound d h true u refl (body_names (with_header env h) h raw.body u start later k) head.0 head.1 (λ cs m l. l) tt
-      (definition_in script (with_header env h) (header_live script env sound h u true head.0 head.1 (known (definition (defined h true u)) (first_of (definition (defined h true u)) (names_in u))))
-      h raw.body u true start later head.0 (λ plain. absurd (false≢true (sym plain))) k) known) declares
-  parts_step at (define_funs_rec fs ts) c new first second before after mode (hs, start, headed, (ds, later, j, (e, f))) declares =
-      step_of script env c (typed.define_funs_rec ds) new (with_headers env hs) e (λ known. group_step at fs hs ts ds before start later headed j known) declares
+      (λ known. (let its = known (definition (defined h true u)) (first_of (definition (defined h true u)) (names_in u)) in
+      let live = header_live script env sound h u true head.0 head.1 its in
+      definition_step script env sound d h true u refl (body_names script env.next (with_header env h) live h raw.body u named later (env.next + 1) head.0 (omega arith) k) head.0 head.1 (λ cs m l. l) tt
+      (definition_in script env.next (with_header env h) live h raw.body u true named later head.0 (λ plain. absurd (false≢true (sym plain))) k) its)) declares
+  parts_step at (define_funs_rec fs ts) c new first second before after mode (hs, start, headed, (w, named, declared, (ds, later, j, (e, f)))) declares =
+      step_of script env c (typed.define_funs_rec ds) new (with_headers env hs) e (λ known. group_step at fs hs ts ds before start named later headed j known) declares
   parts_step at (get_value ts) c new first second before after mode (us, between, h, (e, f)) declares =
-      step_of script env c (typed.get_value us) new env e (λ known. quiet script env sound (typed.get_value us) env sound (λ cs k. k) (terms_names env ts us before between h) (all_of_each (IsSoundIn script) us (terms_sound script env sound ts us before between h))) declares
+      let l = terms_sound script env sound ts us before between h in
+      step_of script env c (typed.get_value us) new env e (λ known. quiet script env sound (typed.get_value us) env sound (λ cs k. k) refl l.1 (all_of_each (IsSoundIn script) us l.0)) declares
   parts_step at (set_logic n) c new first second before after mode (e, f) declares =
       step_of script env c (typed.set_logic n.name) new (record env { logic = true; theories = theories_of env n }) e
-      (λ known. quiet script env sound (typed.set_logic n.name) (record env { logic = true; theories = theories_of env n }) (record { signature = record { table = sound.signature.table; sorts = sound.signature.sorts; funs = sound.signature.funs }; below = sound.below }) (λ cs k. k) refl tt) declares
+      (λ known. quiet script env sound (typed.set_logic n.name) (record env { logic = true; theories = theories_of env n }) (record { signature = record { table = sound.signature.table; sorts = sound.signature.sorts; funs = sound.signature.funs }; below = sound.below }) (λ cs k. k) refl (no_names script env.next) tt) declares
   parts_step at (set_option a) c new first second before after mode (e, f) declares =
       step_of script env c (typed.set_option (attribute_key a).name (attribute_value a)) new (after_option env a) e (λ known. option_step script env sound a (attribute_key a).name (attribute_value a)) declares
   parts_step at (push n) c new first second before after mode (e, f) declares =

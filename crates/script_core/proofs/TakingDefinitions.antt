@@ -33,7 +33,7 @@ use Rattle.script_core.specs.declared.scope.StepError.{StepError}
 use Rattle.script_core.specs.declared.scope.StepError.TheVariants as error
 use Rattle.script_core.specs.Checking.{environment_of}
 use Rattle.script_core.specs.declared.definitions.FunHeader.{FunHeader}
-use Rattle.script_core.specs.Effects.{Answers, AnswersParts, AnswersSort, AnswersTerm, AreReadyVars, IsReadyHeader, IsSameTo, OnlySortsGrow, plain_header}
+use Rattle.script_core.specs.Effects.{Answers, AnswersSort, AreReadyVars, BeginsNames, DeclaresNoName, IsReadyHeader, IsSameTo, Meets, MeetsParts, MeetsTerm, OnlySortsGrow, first_of, plain_header, seen_by}
 use Rattle.script_core.specs.Environment.{Environment, signature_in}
 use Rattle.script_core.specs.RuleAnswers.{variables_left}
 use Rattle.script_core.specs.Rules.{Header, defined, judge_body, judge_header, judge_variable, judge_variables, with_function, with_header}
@@ -74,18 +74,18 @@ sort_at : (u : NumberedTerm) → sorts.tree (sort_of u) ≡ plain_sort (terms.tr
 sort_at (term k s x) = refl
 
 -- A body, in which the parameters of its header are bound, breaks a rule or is of another sort.
-module _ (env : Environment) (h : FunHeader) (t : Term) (vars : List (ℕ × NumberedSort)) (shown : vars ≡ h.params) where
-  pub body_fault : (e : StepError) → AnswersTerm env (map plain_var vars) t (Err e) → Answers (judge_body env (plain_header h) t) terms.tree (Err e)
-  body_fault (error.Broken place) f = inl (subst (λ (vs : List (ℕ × NumberedSort)). AnswersTerm env (map plain_var vs) t (Err (error.Broken place))) shown f)
+module _ (first : ℕ) (env : Environment) (h : FunHeader) (t : Term) (vars : List (ℕ × NumberedSort)) (before after : List ℕ) (shown : vars ≡ h.params) where
+  pub body_fault : (e : StepError) → MeetsTerm first env (map plain_var vars) t (Err e) before after → Meets (judge_body first env (plain_header h) t) terms.tree (Err e) before after
+  body_fault (error.Broken place) f = inl (subst (λ (vs : List (ℕ × NumberedSort)). MeetsTerm first env (map plain_var vs) t (Err (error.Broken place)) before after) shown f)
   body_fault error.NoMemory f = tt
 
-  pub body_wrong : (u : NumberedTerm) (at : ℕ) (same : Bool) (s : NumberedSort) → AnswersTerm env (map plain_var vars) t (Ok u) → s ≡ sort_of u → (IsTrue same ↔ (sorts.tree s ≡ sorts.tree h.result)) → same ≡ false → at ≡ term_at t
-      → Answers (judge_body env (plain_header h) t) terms.tree (Err (error.Broken (record { code = code.WrongTermSort; at = at })))
+  pub body_wrong : (u : NumberedTerm) (at : ℕ) (same : Bool) (s : NumberedSort) → MeetsTerm first env (map plain_var vars) t (Ok u) before after → s ≡ sort_of u → (IsTrue same ↔ (sorts.tree s ≡ sorts.tree h.result)) → same ≡ false → at ≡ term_at t
+      → Meets (judge_body first env (plain_header h) t) terms.tree (Err (error.Broken (record { code = code.WrongTermSort; at = at }))) before after
   body_wrong u at same s f sorted told other here =
       inr (
         terms.tree u,
-        [],
-        subst (λ (vs : List (ℕ × NumberedSort)). AnswersTerm env (map plain_var vs) t (Ok u)) shown f,
+        after,
+        subst (λ (vs : List (ℕ × NumberedSort)). MeetsTerm first env (map plain_var vs) t (Ok u) before after) shown f,
         inl ((λ e. false≢true (sym other ∙ told.1 (ap sorts.tree sorted ∙ (sort_at u ∙ e)))), ap (λ (n : ℕ). record { code = code.WrongTermSort; at = n }) here),
       )
 
@@ -113,14 +113,14 @@ module _ (env : Environment) (before : List (ℕ × NumberedSort)) (v : SortedSy
   variable_right is s h = (tt, [], (is_fresh is, refl), (sorts.tree s, [], h, (refl, refl)))
 
 -- all variables are judged
-pub variables_taken : (env : Environment) (params left : List SortedSymbol) (vars : List (ℕ × NumberedSort)) → left ≡ [] → Onward (judge_variables env) [] params (map (λ w. w.0) vars) left (map plain_var vars)
+pub variables_taken : (env : Environment) (params left : List SortedSymbol) (vars : List (ℕ × NumberedSort)) → left ≡ [] → Onward (judge_variables env) [] params (map (λ w. w.0) vars) left (map plain_var vars) [] []
     → judge_variables env [] params [] (well_sorted (map plain_var vars) [])
 variables_taken env params left vars none onward =
-    onward_end plain_var (judge_variables env) [] params (map (λ w. w.0) vars) left vars (subst (λ (ps : List SortedSymbol). judge_variables env (map (λ w. w.0) vars) ps [] (well_sorted [] [])) (sym none) (refl, refl)) onward
+    onward_end plain_var (judge_variables env) [] params (map (λ w. w.0) vars) left vars [] [] (subst (λ (ps : List SortedSymbol). judge_variables env (map (λ w. w.0) vars) ps [] (well_sorted [] [])) (sym none) (refl, refl)) onward
 
 -- A variable among those that are left.
 module _ (old here : Scope) (params left : List SortedSymbol) (first : RawVariable) (rest : List SortedSymbol) (vars shown : List (ℕ × NumberedSort)) (is : left ≡ variable_seen first ∷ rest) (seen : shown ≡ vars)
-    (grown : OnlySortsGrow old here) (onward : Onward (judge_variables (environment_of old.world.names old)) [] params (map (λ w. w.0) vars) left (map plain_var vars)) where
+    (grown : OnlySortsGrow old here) (onward : Onward (judge_variables (environment_of old.world.names old)) [] params (map (λ w. w.0) vars) left (map plain_var vars) [] []) where
   abbrev old_env : Environment
   old_env = environment_of old.world.names old
 
@@ -142,15 +142,15 @@ module _ (old here : Scope) (params left : List SortedSymbol) (first : RawVariab
       (subst (λ (e : Environment). Answers (judge_variable e (map (λ w. w.0) shown) (variable_seen first)) plain_var r) (here_env old here grown) h)
 
   pub variables_onward : (v : ℕ × NumberedSort) (new : List (ℕ × NumberedSort)) (next : Option (RawVariable × List SortedSymbol)) → Answers (judge_variable (environment_of here.world.names here) (map (λ w. w.0) shown) (variable_seen first)) plain_var (Ok v)
-      → new ≡ vars ++ v ∷ [] → SplitsVariables rest next → Onward (judge_variables old_env) [] params (map (λ w. w.0) new) (variables_left next) (map plain_var new)
+      → new ≡ vars ++ v ∷ [] → SplitsVariables rest next → Onward (judge_variables old_env) [] params (map (λ w. w.0) new) (variables_left next) (map plain_var new) [] []
   variables_onward v new next h put split =
-      onward_part plain_var each later (judge_variables old_env) [] params (map (λ w. w.0) vars) left rest (variable_seen first) vars joins onward v new (map (λ w. w.0) new) (variables_left next)
+      onward_part plain_var each later (judge_variables old_env) [] params (map (λ w. w.0) vars) left rest (variable_seen first) vars [] [] joins onward v new (map (λ w. w.0) new) (variables_left next) []
       (judged_here (Ok v) h) put (ap (map (λ w. w.0)) put ∙ map-append (λ w. w.0) vars (v ∷ [])) (sym (variables_split rest next split))
 
   pub variables_broken : (e : StepError) → Answers (judge_variable (environment_of here.world.names here) (map (λ w. w.0) shown) (variable_seen first)) plain_var (Err e)
       → Answers {A = List (ℕ × NumberedSort)} (judge_variables old_env [] params) (map plain_var) (Err e)
   variables_broken e h =
-      onward_fault plain_var each later (judge_variables old_env) [] params (map (λ w. w.0) vars) left rest (variable_seen first) vars joins onward plain_var (map plain_var) e (judged_here (Err e) h)
+      onward_fault plain_var each later (judge_variables old_env) [] params (map (λ w. w.0) vars) left rest (variable_seen first) vars [] [] joins onward plain_var (map plain_var) e [] [] (judged_here (Err e) h)
 
 -- what stands before the body
 pub header_right : (old mid near : Scope) (n : Tok) (ps : List SortedSymbol) (s : syntax.Sort) (params : List (ℕ × NumberedSort)) (result : NumberedSort)
@@ -197,60 +197,77 @@ header_later old new h same grows ready =
       result = subst (λ (ns : List (List ℕ)). IsReadySchema ns new.world.sorts 0 h.result) names (schema_grown old.world.names old.world.sorts new.world.sorts grows 0 _ ready.result);
     }
 
--- A definition, whose header is judged.
-module _ (old near : Scope) (at : ℕ) (f : FunDef) (h : FunHeader) (headed : Answers (judge_header (environment_of old.world.names old) f.name f.params f.result) plain_header (Ok h)) (grown : OnlySortsGrow old near) where
+-- The command has declared these names of its own, and no other, before its bodies.
+pub record HasNamed (old : Scope) (own : List ℕ) (here : Scope) : Type 0 where
+  pub seen : seen_by here ≡ own
+  pub first : first_of here ≡ old.next
+
+pub names_of_one : (old near named : Scope) (name : ℕ) → BeginsNames old → OnlySortsGrow old near → seen_by named ≡ seen_by near ++ name ∷ [] → first_of named ≡ first_of near → HasNamed old (name ∷ []) named
+names_of_one old near named name begins grown seen first = record {
+  seen = seen ∙ ap (λ (ns : List ℕ). ns ++ name ∷ []) (ap (λ (s : Scope). seen_by s) grown.others ∙ begins.0);
+  first = first ∙ (ap (λ (s : Scope). first_of s) grown.others ∙ begins.1);
+}
+
+pub names_later : (old named live : Scope) (own : List ℕ) → DeclaresNoName named live → HasNamed old own named → HasNamed old own live
+names_later old named live own none has = record { seen = none.0 ∙ has.seen; first = none.1 ∙ has.first }
+
+-- A definition, whose header is judged, and whose name is declared.
+module _ (old : Scope) (at : ℕ) (f : FunDef) (h : FunHeader) (headed : Answers (judge_header (environment_of old.world.names old) f.name f.params f.result) plain_header (Ok h)) where
   abbrev start_env : Environment
   start_env = environment_of old.world.names old
 
   abbrev made : Header
   made = plain_header h
 
-  body_before : (r : Result NumberedTerm StepError) → Answers (judge_body (environment_of near.world.names near) made f.body) terms.tree r → Answers (judge_body start_env made f.body) terms.tree r
-  body_before r b = subst (λ (e : Environment). Answers (judge_body e made f.body) terms.tree r) (here_env old near grown) b
+  abbrev MeetsBody : Environment → Result NumberedTerm StepError → List ℕ → Type 0
+  MeetsBody env r after = Meets (judge_body old.next env made f.body) terms.tree r (h.name ∷ []) after
 
-  pub definition_broken : (new : Environment) (e : StepError) → Answers (judge_body (environment_of near.world.names near) made f.body) terms.tree (Err e) → AnswersParts start_env at (define_fun f) (Err e) new
-  definition_broken new (error.Broken place) b = inr (made, [], headed, inl (body_before (Err (error.Broken place)) b))
-  definition_broken new error.NoMemory b = tt
+  pub body_moved : (env : Environment) (here : Scope) (r : Result NumberedTerm StepError) (after : List ℕ) → environment_of here.world.names here ≡ env → HasNamed old (h.name ∷ []) here
+      → Meets (judge_body (first_of here) (environment_of here.world.names here) made f.body) terms.tree r (seen_by here) after → MeetsBody env r after
+  body_moved env here r after same has b =
+      subst (λ (e : Environment). MeetsBody e r after) same
+      (subst (λ (n : ℕ). Meets (judge_body n (environment_of here.world.names here) made f.body) terms.tree r (h.name ∷ []) after) has.first
+      (subst (λ (ns : List ℕ). Meets (judge_body (first_of here) (environment_of here.world.names here) made f.body) terms.tree r ns after) has.seen b))
 
-  -- the environment under the names of before
-  live_env : (mid new : Scope) → IsSameTo near mid → environment_of mid.world.names new ≡ with_header (environment_of mid.world.names mid) made → environment_of old.world.names new ≡ with_header start_env made
-  live_env mid new same effect =
-      let all : environment_of mid.world.names mid ≡ start_env = same ∙ here_env old near grown in
-      ap (λ (ns : List (List ℕ)). environment_of ns new) (sym (ap (λ (e : Environment). e.names) all)) ∙ (effect ∙ ap (λ (e : Environment). with_header e made) all)
+  pub definition_broken : (new : Environment) (e : StepError) (after : List ℕ) → MeetsBody start_env (Err e) after → MeetsParts start_env at (define_fun f) (Err e) new after
+  definition_broken new (error.Broken place) after b = inr (made, [], headed, inr (tt, h.name ∷ [], refl, inl b))
+  definition_broken new error.NoMemory after b = tt
 
-  pub definition_right : (mid new : Scope) (u : NumberedTerm) (d : Def) → Answers (judge_body (environment_of near.world.names near) made f.body) terms.tree (Ok u) → IsSameTo near mid
-      → environment_of mid.world.names new ≡ with_header (environment_of mid.world.names mid) made → plain_def d ≡ defined made false (terms.tree u)
-      → AnswersParts start_env at (define_fun f) (Ok (kept.DefineFun d)) (environment_of old.world.names new)
-  definition_right mid new u d b same effect is =
-      (made, [], headed, (terms.tree u, [], body_before (Ok u) b, (same_pair (typed.define_fun (plain_def d)) (typed.define_fun (defined made false (terms.tree u))) _ _ (ap typed.define_fun is) (live_env mid new same effect), refl)))
+  pub definition_right : (new : Environment) (u : NumberedTerm) (d : Def) (after : List ℕ) → MeetsBody start_env (Ok u) after → new ≡ with_header start_env made → plain_def d ≡ defined made false (terms.tree u)
+      → MeetsParts start_env at (define_fun f) (Ok (kept.DefineFun d)) new after
+  definition_right new u d after b live is =
+      (made, [], headed, (tt, h.name ∷ [], refl, (terms.tree u, after, b, (same_pair (typed.define_fun (plain_def d)) (typed.define_fun (defined made false (terms.tree u))) _ _ (ap typed.define_fun is) live, refl))))
 
   -- the function is live before its body is judged
-  module _ (live : Scope) (named : live.world.names ≡ near.world.names) (effect : environment_of near.world.names live ≡ with_header (environment_of near.world.names near) made) where
-    live_own : environment_of live.world.names live ≡ with_header start_env made
-    live_own = ap (λ (ns : List (List ℕ)). environment_of ns live) named ∙ (effect ∙ ap (λ (e : Environment). with_header e made) (here_env old near grown))
+  pub recursive_broken : (new : Environment) (e : StepError) (after : List ℕ) → MeetsBody (with_header start_env made) (Err e) after → MeetsParts start_env at (define_fun_rec f) (Err e) new after
+  recursive_broken new (error.Broken place) after b = inr (made, [], headed, inr (tt, h.name ∷ [], refl, inl b))
+  recursive_broken new error.NoMemory after b = tt
 
-    body_after : (r : Result NumberedTerm StepError) → Answers (judge_body (environment_of live.world.names live) made f.body) terms.tree r → Answers (judge_body (with_header start_env made) made f.body) terms.tree r
-    body_after r b = subst (λ (e : Environment). Answers (judge_body e made f.body) terms.tree r) live_own b
+  pub recursive_right : (new : Environment) (u : NumberedTerm) (d : Def) (after : List ℕ) → MeetsBody (with_header start_env made) (Ok u) after → new ≡ with_header start_env made → plain_def d ≡ defined made true (terms.tree u)
+      → MeetsParts start_env at (define_fun_rec f) (Ok (kept.DefineFunRec d)) new after
+  recursive_right new u d after b live is =
+      (made, [], headed, (tt, h.name ∷ [], refl, (terms.tree u, after, b, (same_pair (typed.define_fun_rec (plain_def d)) (typed.define_fun_rec (defined made true (terms.tree u))) _ _ (ap typed.define_fun_rec is) live, refl))))
 
-    pub recursive_broken : (new : Environment) (e : StepError) → Answers (judge_body (environment_of live.world.names live) made f.body) terms.tree (Err e) → AnswersParts start_env at (define_fun_rec f) (Err e) new
-    recursive_broken new (error.Broken place) b = inr (made, [], headed, inl (body_after (Err (error.Broken place)) b))
-    recursive_broken new error.NoMemory b = tt
+-- the environment under the names of before, where the function is live
+pub live_under : (old here new : Scope) (h : FunHeader) → environment_of here.world.names here ≡ environment_of old.world.names old → environment_of here.world.names new ≡ with_header (environment_of here.world.names here) (plain_header h)
+    → environment_of old.world.names new ≡ with_header (environment_of old.world.names old) (plain_header h)
+live_under old here new h same effect =
+    ap (λ (ns : List (List ℕ)). environment_of ns new) (sym (ap (λ (e : Environment). e.names) same)) ∙ (effect ∙ ap (λ (e : Environment). with_header e (plain_header h)) same)
 
-    pub recursive_right : (new : Scope) (u : NumberedTerm) (d : Def) → Answers (judge_body (environment_of live.world.names live) made f.body) terms.tree (Ok u) → IsSameTo live new → plain_def d ≡ defined made true (terms.tree u)
-        → AnswersParts start_env at (define_fun_rec f) (Ok (kept.DefineFunRec d)) (environment_of old.world.names new)
-    recursive_right new u d b same is =
-        let all : environment_of new.world.names new ≡ with_header start_env made = same ∙ live_own in (
-          made,
-          [],
-          headed,
-          (
-            terms.tree u,
-            [],
-            body_after (Ok u) b,
-            (
-              same_pair (typed.define_fun_rec (plain_def d)) (typed.define_fun_rec (defined made true (terms.tree u))) _ _ (ap typed.define_fun_rec is)
-                  (ap (λ (ns : List (List ℕ)). environment_of ns new) (sym (ap (λ (e : Environment). e.names) all)) ∙ all),
-              refl,
-            ),
-          ),
-        )
+-- .. under its own names
+pub live_under_own : (old here new : Scope) (h : FunHeader) → environment_of here.world.names here ≡ environment_of old.world.names old → new.world.names ≡ here.world.names
+    → environment_of here.world.names new ≡ with_header (environment_of here.world.names here) (plain_header h) → environment_of new.world.names new ≡ with_header (environment_of old.world.names old) (plain_header h)
+live_under_own old here new h same names effect =
+    ap (λ (ns : List (List ℕ)). environment_of ns new) names ∙ (effect ∙ ap (λ (e : Environment). with_header e (plain_header h)) same)
+
+-- .. and then under those of before
+pub same_under : (old new : Scope) (h : FunHeader) → environment_of new.world.names new ≡ with_header (environment_of old.world.names old) (plain_header h)
+    → environment_of old.world.names new ≡ with_header (environment_of old.world.names old) (plain_header h)
+same_under old new h all = ap (λ (ns : List (List ℕ)). environment_of ns new) (sym (ap (λ (e : Environment). e.names) all)) ∙ all
+
+-- a header stays ready where its name is declared
+pub named_ready : (near named : Scope) (h : FunHeader) → named.world.names ≡ near.world.names → named.world.sorts ≡ near.world.sorts → IsReadyHeader near h → IsReadyHeader named h
+named_ready near named h names stored ready =
+    let at : (r : NumberedSort) → IsReadySchema near.world.names near.world.sorts 0 r → IsReadySchema named.world.names named.world.sorts 0 r =
+    λ r s. subst (λ (ns : List (List ℕ)). IsReadySchema ns named.world.sorts 0 r) (sym names) (subst (λ (store : List sorts.Sort). IsReadySchema near.world.names store 0 r) (sym stored) s) in
+    record { params = λ k d l. at _ (ready.params k d l); result = at h.result ready.result }

@@ -1,7 +1,7 @@
 -- What the parts of a command lead to, from what the calls answer.
-use Rattle.std.proofs.Common.{◌≡◌, ℕ, ◌+◌, ◌==◌, Bool, true, false, List, [], ◌∷◌, ◌++◌, map, length, Option, Some, None, Ok, refl, ap, sym, ◌∙◌, subst, inl, inr, arith, append_assoc, slice_index_or, if◌then◌else◌}
+use Rattle.std.proofs.Common.{◌≡◌, ℕ, zero, suc, ◌+◌, ◌<◌, ◌==◌, Bool, true, false, List, [], ◌∷◌, ◌++◌, map, length, take, Option, Some, None, Result, Ok, refl, ap, sym, ◌∙◌, subst, inl, inr, arith, append_assoc, slice_index_or, if◌then◌else◌}
 use Rattle.std.specs.List.{All, list_any}
-use Rattle.std.proofs.lemmas.List.{length-map}
+use Rattle.std.proofs.lemmas.List.{length-map, map-append}
 use Rattle.std.proofs.lemmas.Bool.{eqb-true, false≢true}
 use Rattle.lex_core.specs.declared.token.Tok.{Tok}
 use Rattle.sig_table.specs.declared.code.Code.TheVariants as code
@@ -9,7 +9,9 @@ use Rattle.sexp_core.specs.Sexp.{Sexp}
 use Rattle.judgement.specs.Judging.{Outcome, ill_sorted, well_sorted}
 use Rattle.sort_store.specs.declared.head.DeclNo.{DeclNo}
 use Rattle.sort_store.specs.Tree.{NumberedSort, tree}
+use Rattle.sort_store.specs.Tree as sort_tree
 use Rattle.scope_stack.specs.declared.entry.FunEntry.{FunEntry}
+use Rattle.scope_stack.specs.declared.entry.FunKind.TheVariants as fun_kind
 use Rattle.scope_stack.specs.declared.entry.SortEntry.{SortEntry}
 use Rattle.scope_stack.specs.Environment.{Environment as Scopes}
 use Rattle.scope_stack.specs.Environment as scopes
@@ -23,19 +25,23 @@ use Rattle.term_grammar.specs.IdentifierViews.{SplitsTokens}
 use Rattle.cmd_grammar.specs.Commands.{declare_const, declare_fun, define_sort}
 use Rattle.cmd_grammar.specs.Commands as commands
 use Rattle.term_store.specs.declared.command.TypedCommand.TheVariants as kept
+use Rattle.term_store.specs.Command.{PlainDef, plain_def}
 use Rattle.term_store.specs.Command as typed
+use Rattle.term_store.specs.declared.command.Def.{Def}
+use Rattle.term_store.specs.declared.command.TypedCommand.{TypedCommand}
+use Rattle.script_core.specs.declared.scope.StepError.{StepError}
 use Rattle.term_store.specs.Value.{unplaced_value}
 use Rattle.term_grammar.specs.Syntax.{Sort, Sorts, Attribute, keyword_attribute, valued_attribute}
 use Rattle.term_grammar.specs.declared.attribute.RawAttributeKind.TheVariants as kind
 use Rattle.term_grammar.specs.declared.words.TheConstants.{GLOBAL_DECLARATIONS}
 use Rattle.script_core.specs.declared.scope.Scope.{Scope}
 use Rattle.script_core.specs.Checking.{environment_of}
-use Rattle.script_core.specs.Effects.{AnswersParts, AnswersSort, AnswersSorts, OnlySortsGrow}
+use Rattle.script_core.specs.Effects.{AnswersParts, AnswersSort, AnswersSorts, MeetsParts, OnlySortsGrow}
 use Rattle.script_core.specs.Environment.{Environment, signature_in}
 use Rattle.script_core.specs.RuleAnswers.{tokens_left}
-use Rattle.script_core.specs.Rules.{after_option, is_true, judge_params, next_number, value_of, with_defined_sort, with_function}
+use Rattle.script_core.specs.Rules.{after_option, is_true, judge_params, next_number, value_of, with_defined_sort, with_function, with_name, with_names_given}
 use Rattle.typer.specs.TermRules.{attribute_key, attribute_value}
-use Rattle.script_core.proofs.ReadyScopes.{with_scopes}
+use Rattle.script_core.proofs.ReadyScopes.{with_scopes, with_store}
 
 -- the environment where declarations have changed
 pub declared_env : (names : List (List ℕ)) (old : Scope) (s : Scopes) (next : ℕ) (d : Declarations) → declarations_of s ≡ d
@@ -253,3 +259,42 @@ pub option_answer : (env after : Environment) (at : ℕ) (a : Attribute) (key : 
     → AnswersParts env at (commands.set_option a) (Ok (kept.SetOption key value)) after
 option_answer env after at a key value named valued effect =
     (same_pair _ _ _ _ (ap (λ (k : ℕ). typed.set_option k (unplaced_value value)) named ∙ ap (λ (v : Option (Sexp Tok)). typed.set_option (attribute_key a).name v) valued) effect, refl)
+
+abbrev named_env : List (List ℕ) → Scope → Def → List sort_tree.Sort → sort_tree.Sort → Environment
+named_env names old d args result = record (environment_of names old) {
+  declarations = with_fun d.name (record { number = d.no; kind = fun_kind.Named; params = 0; args = args; result = result }) (declarations_of old.world.scopes);
+  next = old.next + 1;
+}
+
+-- a named term is live
+pub name_added : (names : List (List ℕ)) (old : Scope) (store : List sort_tree.Sort) (s : Scopes) (next : ℕ) (d : Def) (args : List NumberedSort) (made : NumberedSort) → args ≡ []
+    → s ≡ scopes.with_fun d.name (record { no = d.no; kind = fun_kind.Named; params = 0; args = args; result = made }) old.world.scopes → next ≡ old.next + 1 → tree made ≡ tree d.result
+    → environment_of names (record (with_scopes s (with_store store old)) { next = next }) ≡ with_name (environment_of names old) (plain_def d)
+name_added names old store s next d args made none e more same =
+    added_env names (with_store store old) s next _ (fun_added d.name (record { no = d.no; kind = fun_kind.Named; params = 0; args = args; result = made }) old.world.scopes s e) more
+    ∙ (ap (λ (rs : List NumberedSort). named_env names old d (map tree rs) (tree made)) none ∙ ap (λ (r : sort_tree.Sort). named_env names old d [] r) same)
+
+-- a command that has declared no name
+pub unnamed_parts : (env new : Environment) (at : ℕ) (c : commands.Command) (r : Result TypedCommand StepError) (after : List ℕ) → after ≡ [] → AnswersParts env at c r new → MeetsParts env at c r new after
+unnamed_parts env new at c r after none h = subst (MeetsParts env at c r new) (sym none) h
+
+names_more : (env : Environment) (ds : List PlainDef) (d : PlainDef) → with_names_given env (ds ++ d ∷ []) ≡ with_name (with_names_given env ds) d
+names_more env [] d = refl
+names_more env (x ∷ ds) d = names_more (with_name env x) ds d
+
+take_at : (xs : List Def) (i : ℕ) (x : Def) → i < length xs → x ≡ slice_index_or xs i x → take (suc i) xs ≡ take i xs ++ x ∷ []
+take_at [] i x l e = absurd (omega (arith, l))
+take_at (y ∷ ys) zero x l e = ap (λ (z : Def). z ∷ []) (sym e)
+take_at (y ∷ ys) (suc i) x l e = ap (λ (zs : List Def). y ∷ zs) (take_at ys i x (omega (arith, l)) e)
+
+-- one more named term is live
+pub names_on : (old here after : Scope) (named : List Def) (i n : ℕ) (d : Def) → n ≡ suc i → i < length named → d ≡ slice_index_or named i d → here.world.names ≡ old.world.names
+    → environment_of old.world.names here ≡ with_names_given (environment_of old.world.names old) (map plain_def (take i named))
+    → environment_of here.world.names after ≡ with_name (environment_of here.world.names here) (plain_def d)
+    → environment_of old.world.names after ≡ with_names_given (environment_of old.world.names old) (map plain_def (take n named))
+names_on old here after named i n d next few at names reached effect =
+    let start = environment_of old.world.names old in
+    subst (λ (ns : List (List ℕ)). environment_of ns after ≡ with_name (environment_of ns here) (plain_def d)) names effect
+    ∙ (ap (λ (e : Environment). with_name e (plain_def d)) reached
+    ∙ sym (ap (λ (m : ℕ). with_names_given start (map plain_def (take m named))) next ∙ (ap (λ (ds : List Def). with_names_given start (map plain_def ds)) (take_at named i d few at)
+    ∙ (ap (with_names_given start) (map-append plain_def (take i named) (d ∷ [])) ∙ names_more start (map plain_def (take i named)) (plain_def d)))))

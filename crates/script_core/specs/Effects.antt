@@ -13,6 +13,7 @@ use Rattle.typer.specs.TermRules.{judge_term}
 use Rattle.term_store.specs.declared.command.TypedCommand.{TypedCommand}
 use Rattle.term_store.specs.Command.{plain_command}
 use Rattle.term_store.specs.Term.{NumberedTerm, plain_var, tree as term_tree}
+use Rattle.typer.specs.FunctionSymbols.{first_number}
 use Rattle.typer.specs.Ready.{IsReadySchema}
 use Rattle.typer.specs.declared.error.TyError.{TyError}
 use Rattle.typer.specs.declared.error.TyError.TheVariants as ty
@@ -21,34 +22,60 @@ use Rattle.script_core.specs.declared.definitions.FunHeader.{FunHeader}
 use Rattle.script_core.specs.declared.scope.Scope.{Scope}
 use Rattle.script_core.specs.declared.scope.StepError.{StepError}
 use Rattle.script_core.specs.declared.scope.StepError.TheVariants as error
-use Rattle.script_core.specs.Environment.{Environment, signature_in}
+use Rattle.script_core.specs.Environment.{Environment, signature_from}
 use Rattle.script_core.specs.Rules.{Header, judge_parts, unchanging}
 
--- Ok has what the judgement leads to, a broken rule is its fault, and want of memory says nothing. No name is declared by an
--- annotation.
-abbrev pub Answers : {A B : Type 0} → Judging B → (A → B) → Result A StepError → Type 0
-Answers J value (Ok x) = J [] (well_sorted (value x) [])
-Answers J value (Err (error.Broken place)) = J [] (ill_sorted place)
-Answers J value (Err error.NoMemory) = Unit {0}
+-- Ok has what the judgement leads to, a broken rule is its fault, and want of memory says nothing. The command has declared some
+-- names before, and then these.
+abbrev pub Meets : {A B : Type 0} → Judging B → (A → B) → Result A StepError → List ℕ → List ℕ → Type 0
+Meets J value (Ok x) before after = J before (well_sorted (value x) after)
+Meets J value (Err (error.Broken place)) before after = J before (ill_sorted place)
+Meets J value (Err error.NoMemory) before after = Unit {0}
 
--- the command, whose list begins at a byte, is kept as the typed command and leads from old to new, or breaks a rule
+-- the same of what declares no name, where none is declared
+abbrev pub Answers : {A B : Type 0} → Judging B → (A → B) → Result A StepError → Type 0
+Answers J value result = Meets J value result [] []
+
+-- the command, whose list begins at a byte, is kept as the typed command, leads from old to new and has declared these names, or
+-- breaks a rule
+abbrev pub MeetsParts : Environment → ℕ → Command → Result TypedCommand StepError → Environment → List ℕ → Type 0
+MeetsParts old at command result new after = Meets (judge_parts old at command) (λ c. (plain_command c, new)) result [] after
+
 abbrev pub AnswersParts : Environment → ℕ → Command → Result TypedCommand StepError → Environment → Type 0
-AnswersParts old at command result new = Answers (judge_parts old at command) (λ c. (plain_command c, new)) result
+AnswersParts old at command result new = MeetsParts old at command result new []
 
 -- the same of a command that changes nothing
 abbrev pub AnswersUnchanging : ℕ → Command → Result TypedCommand StepError → Type 0
 AnswersUnchanging at command result = Answers (find (λ c. unchanging command ≡ Some c) WrongCommandForm at) plain_command result
 
 -- the sort of a raw sort under the parameters of the command, the sorts of some raw sorts, and the typed term of a term in which
--- variables are bound
+-- variables are bound, where the first name that the command declares has this number
 abbrev pub AnswersSort : Environment → List ℕ → Sort → Result NumberedSort StepError → Type 0
 AnswersSort env params s result = Answers (judge_sort env.names env.declarations env.theories params s) tree result
 
 abbrev pub AnswersSorts : Environment → Sorts → Result (List NumberedSort) StepError → Type 0
 AnswersSorts env ss result = Answers (judge_sorts env.names env.declarations env.theories [] ss) (λ rs. map tree rs) result
 
-abbrev pub AnswersTerm : Environment → List (ℕ × sorts.Sort) → Term → Result NumberedTerm StepError → Type 0
-AnswersTerm env vars t result = Answers (judge_term (signature_in env) vars t) term_tree result
+abbrev pub MeetsTerm : ℕ → Environment → List (ℕ × sorts.Sort) → Term → Result NumberedTerm StepError → List ℕ → List ℕ → Type 0
+MeetsTerm first env vars t result before after = Meets (judge_term (signature_from first env) vars t) term_tree result before after
+
+-- the names that the command has declared so far, and the number of the first one
+abbrev pub seen_by : Scope → List ℕ
+seen_by scope = scope.world.seen.items
+
+abbrev pub first_of : Scope → ℕ
+first_of scope = first_number scope.world
+
+-- no name is declared
+abbrev pub DeclaresNoName : Scope → Scope → Type 0
+DeclaresNoName old new = (seen_by new ≡ seen_by old) × (first_of new ≡ first_of old)
+
+-- names count from the next number on, and none is declared yet
+abbrev pub CountsNames : Scope → Type 0
+CountsNames scope = first_of scope ≡ scope.next
+
+abbrev pub BeginsNames : Scope → Type 0
+BeginsNames scope = (seen_by scope ≡ []) × CountsNames scope
 
 -- a header by the trees of its sorts
 abbrev pub plain_header : FunHeader → Header

@@ -46,6 +46,9 @@ text_of env token = slice_index_or env.names token.name []
 abbrev pub theories_of : Environment → Tok → Theories
 theories_of env token = unwrap_or (logic_theories (text_of env token)) core_alone
 
--- what the symbols of terms are looked up in
+-- what the symbols of terms are looked up in, where this is the number of the first name that the command declares
+abbrev pub signature_from : ℕ → Environment → Signature
+signature_from first env = record { texts = env.names; declarations = env.declarations; theories = env.theories; first = first }
+
 abbrev pub signature_in : Environment → Signature
-signature_in env = record { texts = env.names; declarations = env.declarations; theories = env.theories }
+signature_in env = signature_from env.next env

@@ -35,7 +35,7 @@ pub record KeepsBelow (n : ℕ) (kept : Definitions) : Type 0 where
   pub defs : All (λ (d : Def). d.no.0 < n) kept.defs
   pub no_datatypes : kept.datatypes ≡ []
 
--- the definitions of a command
+-- the definitions that a command makes, but for those of its named terms
 abbrev pub definitions_in : TypedCommand → List Def
 definitions_in (command.DefineFun d) = d ∷ []
 definitions_in (command.DefineFunRec d) = d ∷ []

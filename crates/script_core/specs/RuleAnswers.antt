@@ -18,7 +18,7 @@ use Rattle.term_store.specs.Command as typed
 use Rattle.logic_frag.specs.TermSearch.{command_has_part, is_quantifier}
 use Rattle.typer.specs.Declarations.{depth}
 use Rattle.script_core.specs.Environment.{Environment, logic_theories, text_of}
-use Rattle.script_core.specs.Rules.{has_named, is_built, value_of}
+use Rattle.script_core.specs.Rules.{is_built, value_of}
 use Rattle.typer.specs.TermRules.{attribute_key}
 
 abbrev pub Answer : Type 0
@@ -44,7 +44,7 @@ abbrev mutual
   answer_built (for_all at vs u) = answer_built u
   answer_built (there_exists at vs u) = answer_built u
   answer_built (match_with at u cs) = fault code.WrongTermForm at
-  answer_built (annotated at u ns) = both (test (not (has_named ns)) code.WrongTermForm at) (both (answer_built u) (answer_notes_built ns))
+  answer_built (annotated at u ns) = both (answer_built u) (answer_notes_built ns)
 
   pub answer_all_built : Terms → Answer
   answer_all_built no_terms = Ok tt

@@ -6,7 +6,7 @@ use Rattle.std.specs.Option.{is_some}
 use Rattle.lex_core.specs.declared.token.Tok.{Tok}
 use Rattle.sig_table.specs.declared.code.Code.TheVariants as code
 use Rattle.sexp_core.specs.Sexp.{Sexp, atom, list}
-use Rattle.judgement.specs.Judging.{Judging, ◌>>=◌, check, done, find, refuse}
+use Rattle.judgement.specs.Judging.{Judging, ◌>>=◌, check, declare, done, find, refuse}
 use Rattle.sort_store.specs.declared.head.DeclNo.{DeclNo}
 use Rattle.sort_store.specs.CoreRanks.{bool}
 use Rattle.sort_store.specs.Tree as tree
@@ -22,9 +22,11 @@ use Rattle.typer.specs.TermRules.{attribute_key, attribute_value, judge_term, ju
 use Rattle.typer.specs.FunctionSymbols.{is_fun_in_use, is_sort_in_use}
 use Rattle.term_store.specs.Command.{PlainCommand, PlainDef}
 use Rattle.term_store.specs.Command as typed
+use Rattle.term_store.specs.Declarations.{Declaration, names_in, names_in_all}
 use Rattle.term_store.specs.Term.{PlainTerm, plain_sort}
 use Rattle.logic_frag.specs.FragmentRules.{DefinesRecursively, HasTerm, IsQuantifier}
-use Rattle.script_core.specs.Environment.{Environment, logic_theories, signature_in, start, text_of, theories_of}
+use Rattle.script_core.specs.Keeping.{defined_in}
+use Rattle.script_core.specs.Environment.{Environment, logic_theories, signature_from, signature_in, start, text_of, theories_of}
 
 -- the commands that are built
 abbrev pub is_built : Command → Bool
@@ -32,15 +34,7 @@ is_built (declare_datatype n d) = false
 is_built (declare_datatypes ss ds) = false
 is_built command = true
 
--- an attribute is :named
-abbrev pub has_named : Notes → Bool
-has_named no_notes = false
-has_named (with_note (named_note t) ns) = true
-has_named (with_note (pattern_note ts) ns) = has_named ns
-has_named (with_note (attribute_note a) ns) = has_named ns
-
--- The productions of terms that are built are all but match, and annotations but those with :named. The first tree of another
--- production is the fault, a tree before its parts.
+-- The productions of terms that are built are all but match. The first match is the fault, a term before its parts.
 abbrev mutual
   pub judge_built : Term → Judging (Unit {0})
   judge_built (constant c) = done tt
@@ -53,7 +47,6 @@ abbrev mutual
   judge_built (there_exists at vs u) = judge_built u
   judge_built (match_with at u cs) = refuse code.WrongTermForm at
   judge_built (annotated at u ns) = do
-    _ ← check (has_named ns ≡ false) code.WrongTermForm at
     _ ← judge_built u
     judge_notes_built ns
 
@@ -213,10 +206,10 @@ judge_header env n ps s = do
 abbrev pub with_header : Environment → Header → Environment
 with_header env h = with_function env h.name (map (λ v. v.1) h.params) h.result
 
--- the body, in which the parameters are bound, has the result sort
-abbrev pub judge_body : Environment → Header → Term → Judging PlainTerm
-judge_body env h t = do
-  u ← judge_term (signature_in env) h.params t
+-- the body, in which the parameters are bound, has the result sort; the first name that the command declares has this number
+abbrev pub judge_body : ℕ → Environment → Header → Term → Judging PlainTerm
+judge_body first env h t = do
+  u ← judge_term (signature_from first env) h.params t
   _ ← check (plain_sort u ≡ h.result) code.WrongTermSort (term_at t)
   done u
 
@@ -237,19 +230,47 @@ with_headers env [] = env
 with_headers env (h ∷ hs) = with_headers (with_header env h) hs
 
 -- the definition of one of them
-abbrev pub judge_member : Environment → Header → Term → Judging PlainDef
-judge_member env h t = do
-  u ← judge_body env h t
+abbrev pub judge_member : ℕ → Environment → Header → Term → Judging PlainDef
+judge_member first env h t = do
+  u ← judge_body first env h t
   done (defined h true u)
 
 -- Their definitions, one body for each. By the grammar there are as many bodies.
-abbrev pub judge_members : Environment → ℕ → List Header → Terms → Judging (List PlainDef)
-judge_members env at [] ts = done []
-judge_members env at (h ∷ hs) no_terms = refuse code.WrongCommandForm at
-judge_members env at (h ∷ hs) (with_term t ts) = do
-  d ← judge_member env h t
-  ds ← judge_members env at hs ts
+abbrev pub judge_members : ℕ → Environment → ℕ → List Header → Terms → Judging (List PlainDef)
+judge_members first env at [] ts = done []
+judge_members first env at (h ∷ hs) no_terms = refuse code.WrongCommandForm at
+judge_members first env at (h ∷ hs) (with_term t ts) = do
+  d ← judge_member first env h t
+  ds ← judge_members first env at hs ts
   done (d ∷ ds)
+
+-- the names of functions are declared before those that their bodies give to terms
+abbrev pub declare_each : List ℕ → Judging (Unit {0})
+declare_each [] = done tt
+declare_each (n ∷ ns) = do
+  _ ← declare n
+  declare_each ns
+
+-- the named terms of a command, in reading order
+abbrev pub named_by : PlainCommand → List Declaration
+named_by (typed.assert t) = names_in t
+named_by (typed.check_sat_assuming ts) = names_in_all ts
+named_by (typed.define_fun d) = names_in d.body
+named_by (typed.define_fun_rec d) = names_in d.body
+named_by (typed.define_funs_rec ds) = names_in_all (map (λ d. d.body) ds)
+named_by (typed.get_value ts) = names_in_all ts
+named_by command = []
+
+-- A named term is a constant, which takes a number.
+abbrev pub with_name : Environment → PlainDef → Environment
+with_name env d = record env {
+  declarations = with_fun d.name (record { number = d.no; kind = kind.Named; params = 0; args = []; result = d.result }) env.declarations;
+  next = env.next + 1;
+}
+
+abbrev pub with_names_given : Environment → List PlainDef → Environment
+with_names_given env [] = env
+with_names_given env (d ∷ ds) = with_names_given (with_name env d) ds
 
 -- The names, sorts and terms of the command whose list begins at this byte, with the typed command that is kept and what it leads
 -- to. A name that is in use is the first fault of a declaration. `reset` forgets all but the names and the next number, since a
@@ -281,15 +302,18 @@ judge_parts env at (define_sort n ps s) = do
   done (typed.define_sort n.name (map (λ p. p.name) ps) body, with_defined_sort env n.name (length ps) body)
 judge_parts env at (define_fun f) = do
   h ← judge_header env f.name f.params f.result
-  u ← judge_body env h f.body
+  _ ← declare h.name
+  u ← judge_body env.next env h f.body
   done (typed.define_fun (defined h false u), with_header env h)
 judge_parts env at (define_fun_rec f) = do
   h ← judge_header env f.name f.params f.result
-  u ← judge_body (with_header env h) h f.body
+  _ ← declare h.name
+  u ← judge_body env.next (with_header env h) h f.body
   done (typed.define_fun_rec (defined h true u), with_header env h)
 judge_parts env at (define_funs_rec fs ts) = do
   hs ← judge_headers env fs
-  ds ← judge_members (with_headers env hs) at hs ts
+  _ ← declare_each (map (λ h. h.name) hs)
+  ds ← judge_members env.next (with_headers env hs) at hs ts
   done (typed.define_funs_rec ds, with_headers env hs)
 judge_parts env at (get_value ts) = do
   us ← judge_terms (signature_in env) [] ts
@@ -311,11 +335,17 @@ judge_fragment env at c = do
   _ ← check (HasTerm c (λ o. IsQuantifier o.its) → IsTrue env.theories.ints) code.QuantifierOutsideLogic at
   check (DefinesRecursively c → IsTrue env.theories.ints) code.RecursionOutsideLogic at
 
--- the command whose list begins at this byte
-abbrev pub judge_command : Environment → ℕ → Command → Judging (PlainCommand × Environment)
-judge_command env at command = do
+-- the command whose list begins at this byte, before its named terms are live
+abbrev pub judge_own : Environment → ℕ → Command → Judging (PlainCommand × Environment)
+judge_own env at command = do
   _ ← judge_form at command
   _ ← judge_mode env at command
   made ← judge_parts env at command
   _ ← judge_fragment env at made.0
   done made
+
+-- .. and with them: they may be used from the next command on
+abbrev pub judge_command : Environment → ℕ → Command → Judging (PlainCommand × Environment)
+judge_command env at command = do
+  made ← judge_own env at command
+  done (made.0, with_names_given made.1 (defined_in (named_by made.0)))

@@ -1,8 +1,6 @@
 //! The productions of terms that are built.
-ghost use Rattle.std.specs.Prelude.{◌≡◌, not};
-ghost use Rattle.script_core.specs.Rules.{has_named as is_any_named};
-ghost use Rattle.script_core.specs.RuleAnswers.{answer_all_built, answer_bindings_built, answer_built, answer_note_built, answer_notes_built, both, test};
-ghost use Rattle.sig_table.specs.declared.code.Code.TheVariants as code;
+ghost use Rattle.std.specs.Prelude.{◌≡◌};
+ghost use Rattle.script_core.specs.RuleAnswers.{answer_all_built, answer_bindings_built, answer_built, answer_note_built, answer_notes_built};
 
 use lex_core::Place;
 use sig_table::Code;
@@ -26,7 +24,10 @@ pub fn judge_built(term: &RawTerm) -> Result<(), Place>
             code: Code::WrongTermForm,
             at,
         }),
-        RawTermKind::Annotated { term, notes } => judge_annotation_built(at, &term, &notes),
+        RawTermKind::Annotated { term, notes } => {
+            judge_built(&term)?;
+            judge_notes_built(&notes)
+        }
     }
 }
 
@@ -53,34 +54,6 @@ fn judge_bindings_built(bindings: &RawBindings) -> Result<(), Place>
         next = rest.split();
     }
     Ok(())
-}
-
-// Whether an attribute is `:named`.
-fn has_named(notes: &RawNotes) -> bool
-    ensures { result ≡ is_any_named notes.now }
-{
-    let mut next = notes.split();
-    while let Some((first, rest)) = next {
-        if let RawNoteKind::Named { .. } = first.kind() {
-            return true;
-        }
-        next = rest.split();
-    }
-    false
-}
-
-#[cycle(built)]
-fn judge_annotation_built(at: u32, term: &RawTerm, notes: &RawNotes) -> Result<(), Place>
-    ensures { result ≡ both (test (not (is_any_named notes.now)) code.WrongTermForm at) (both (answer_built term.now) (answer_notes_built notes.now)) }
-{
-    if has_named(notes) {
-        return Err(Place {
-            code: Code::WrongTermForm,
-            at,
-        });
-    }
-    judge_built(term)?;
-    judge_notes_built(notes)
 }
 
 #[cycle(built)]

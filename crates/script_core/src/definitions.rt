@@ -1,5 +1,5 @@
 //! The commands that define functions (SMT-LIB 2.6, section 4.2.3).
-ghost use Rattle.std.specs.Prelude.{◌≡◌, ◌<◌, [], length, map, IfErr, IfOk, IsTrue, OnOk};
+ghost use Rattle.std.specs.Prelude.{◌≡◌, ◌<◌, ◌++◌, ◌∷◌, [], length, map, IfErr, IfOk, IsTrue, OnOk};
 ghost use Rattle.std.specs.Prelude.{◌==◌};
 ghost use Rattle.std.specs.List.{All, list_any};
 ghost use Rattle.sort_store.specs.Interned.{Grows};
@@ -10,7 +10,7 @@ ghost use Rattle.term_store.specs.Command.{plain_def};
 ghost use Rattle.term_store.specs.Term.{plain_var, tree as term_tree};
 ghost use Rattle.typer.specs.Typed.{AreBound};
 ghost use Rattle.script_core.specs.Rules.{defined, judge_body, judge_header, judge_headers, judge_member, judge_members, judge_variable, judge_variables, with_header, with_headers};
-ghost use Rattle.script_core.specs.Effects.{Answers, AnswersParts, AreNamed, AreReadyVars, IsReadyHeader, IsSameTo, OnlySortsGrow, plain_header};
+ghost use Rattle.script_core.specs.Effects.{Answers, AreNamed, AreReadyVars, BeginsNames, DeclaresNoName, IsReadyHeader, IsSameTo, Meets, MeetsParts, OnlySortsGrow, first_of, plain_header, seen_by};
 ghost use Rattle.script_core.specs.Checking.{IsReadyScope, environment_of};
 
 use crate::effects::{add_function, broken, copy_of, sort_of, term_of};
@@ -23,7 +23,7 @@ use sort_store::{DeclNo, SortRef, Sorts, same_tree};
 use std::alloc::Global;
 use term_grammar::{RawSort, RawTerm, RawTerms, RawVariable, RawVariables};
 use term_store::{Def, ListOf, TermRef, TypedCommand};
-use typer::is_fun_in_use;
+use typer::{is_fun_in_use, take_number};
 
 /// What a definition says before its body.
 #[derive(Drop)]
@@ -141,6 +141,7 @@ fn add_header(scope: &mut Scope, header: &FunHeader) -> Result<(), StepError>
     ensures names { scope.new.world.names ≡ scope.old.world.names }
     ensures sorts { scope.new.world.sorts ≡ scope.old.world.sorts }
     ensures script { scope.new.world.script ≡ scope.old.world.script }
+    ensures unnamed { DeclaresNoName scope.old scope.new }
     ensures stands { IsReadyScope scope.new }
 {
     let args = sorts_of(scope.alloc, header.params.as_slice())?;
@@ -151,12 +152,50 @@ fn add_header(scope: &mut Scope, header: &FunHeader) -> Result<(), StepError>
     }
 }
 
+// Takes the name of a function as one that the command declares. The only error is that memory runs out.
+fn declare_name(scope: &mut Scope, name: NameId) -> Result<(), StepError>
+    requires stands { IsReadyScope scope.old }
+    ensures seen { OnOk result (seen_by scope.new ≡ seen_by scope.old ++ name ∷ []) }
+    ensures first { first_of scope.new ≡ first_of scope.old }
+    ensures error { IfErr result (λ e. e ≡ StepError.NoMemory) }
+    ensures same { IsSameTo scope.old scope.new }
+    ensures names { scope.new.world.names ≡ scope.old.world.names }
+    ensures sorts { scope.new.world.sorts ≡ scope.old.world.sorts }
+    ensures script { scope.new.world.script ≡ scope.old.world.script }
+    ensures logic { scope.new.logic ≡ scope.old.logic }
+    ensures stands { IsReadyScope scope.new }
+{
+    match take_number(&mut scope.world, name) {
+        Ok(_) => Ok(()),
+        Err(_) => Err(StepError::NoMemory),
+    }
+}
+
+// The same of functions that are declared together.
+fn declare_names(scope: &mut Scope, headers: &[FunHeader]) -> Result<(), StepError>
+    requires stands { IsReadyScope scope.old }
+    ensures seen { OnOk result (seen_by scope.new ≡ seen_by scope.old ++ map (λ h. h.name) headers.now) }
+    ensures first { first_of scope.new ≡ first_of scope.old }
+    ensures error { IfErr result (λ e. e ≡ StepError.NoMemory) }
+    ensures same { IsSameTo scope.old scope.new }
+    ensures names { scope.new.world.names ≡ scope.old.world.names }
+    ensures sorts { scope.new.world.sorts ≡ scope.old.world.sorts }
+    ensures script { scope.new.world.script ≡ scope.old.world.script }
+    ensures stands { IsReadyScope scope.new }
+{
+    for header in headers {
+        declare_name(scope, header.name)?;
+    }
+    Ok(())
+}
+
 // The typed term of a body, which has the result sort.
 fn body_of(scope: &mut Scope, header: &FunHeader, body: RawTerm) -> Result<TermRef, StepError>
     requires stands { IsReadyScope scope.old }
     requires vars { AreBound scope.old.world header.now.params }
     ensures answer { let env = environment_of scope.old.world.names scope.old in
-        Answers (judge_body env (plain_header header.now) body.entry) term_tree result }
+        Meets (judge_body (first_of scope.old) env (plain_header header.now) body.entry) term_tree result (seen_by scope.old) (seen_by scope.new) }
+    ensures first { first_of scope.new ≡ first_of scope.old }
     ensures same { IsSameTo scope.old scope.new }
     ensures grows { Grows scope.old.world.sorts scope.new.world.sorts }
     ensures script { scope.new.world.script ≡ scope.old.world.script }
@@ -193,10 +232,11 @@ fn definition(header: FunHeader, recursive: bool, body: TermRef) -> Def
 /// Defines a function.
 pub fn define_fun(scope: &mut Scope, at: u32, raw: RawFunDef) -> Result<TypedCommand, StepError>
     requires stands { IsReadyScope scope.old }
+    requires begins { BeginsNames scope.old }
     requires logic { IsTrue scope.old.logic }
     requires named { raw.name.name < length scope.old.world.names }
     ensures answer { let names = scope.old.world.names in
-        AnswersParts (environment_of names scope.old) at (command.define_fun (fun_def_seen raw.entry)) result (environment_of names scope.new) }
+        MeetsParts (environment_of names scope.old) at (command.define_fun (fun_def_seen raw.entry)) result (environment_of names scope.new) (seen_by scope.new) }
     ensures names { scope.new.world.names ≡ scope.old.world.names }
     ensures script { scope.new.world.script ≡ scope.old.world.script }
     ensures stands { IsReadyScope scope.new }
@@ -208,6 +248,7 @@ pub fn define_fun(scope: &mut Scope, at: u32, raw: RawFunDef) -> Result<TypedCom
         body,
     } = raw;
     let header = header_of(scope, &name, &params, result)?;
+    declare_name(scope, header.name)?;
     let body = body_of(scope, &header, body)?;
     add_header(scope, &header)?;
     Ok(TypedCommand::DefineFun {
@@ -218,10 +259,11 @@ pub fn define_fun(scope: &mut Scope, at: u32, raw: RawFunDef) -> Result<TypedCom
 /// Defines a function that is live in its body.
 pub fn define_fun_rec(scope: &mut Scope, at: u32, raw: RawFunDef) -> Result<TypedCommand, StepError>
     requires stands { IsReadyScope scope.old }
+    requires begins { BeginsNames scope.old }
     requires logic { IsTrue scope.old.logic }
     requires named { raw.name.name < length scope.old.world.names }
     ensures answer { let names = scope.old.world.names in
-        AnswersParts (environment_of names scope.old) at (command.define_fun_rec (fun_def_seen raw.entry)) result (environment_of names scope.new) }
+        MeetsParts (environment_of names scope.old) at (command.define_fun_rec (fun_def_seen raw.entry)) result (environment_of names scope.new) (seen_by scope.new) }
     ensures names { scope.new.world.names ≡ scope.old.world.names }
     ensures script { scope.new.world.script ≡ scope.old.world.script }
     ensures stands { IsReadyScope scope.new }
@@ -233,6 +275,7 @@ pub fn define_fun_rec(scope: &mut Scope, at: u32, raw: RawFunDef) -> Result<Type
         body,
     } = raw;
     let header = header_of(scope, &name, &params, result)?;
+    declare_name(scope, header.name)?;
     add_header(scope, &header)?;
     let body = body_of(scope, &header, body)?;
     Ok(TypedCommand::DefineFunRec {
@@ -253,6 +296,7 @@ fn next_header(scope: &mut Scope, declaration: RawFunDec) -> Result<FunHeader, S
     ensures grows { Grows scope.old.world.sorts scope.new.world.sorts }
     ensures names { scope.new.world.names ≡ scope.old.world.names }
     ensures script { scope.new.world.script ≡ scope.old.world.script }
+    ensures unnamed { DeclaresNoName scope.old scope.new }
     ensures stands { IsReadyScope scope.new }
 {
     let RawFunDec {
@@ -279,6 +323,7 @@ fn headers_of(scope: &mut Scope, declarations: &RawFunDecs) -> Result<ListOf<Fun
     ensures ready { IfOk result (λ hs. All (IsReadyHeader scope.new) hs) }
     ensures names { scope.new.world.names ≡ scope.old.world.names }
     ensures script { scope.new.world.script ≡ scope.old.world.script }
+    ensures unnamed { DeclaresNoName scope.old scope.new }
     ensures stands { IsReadyScope scope.new }
 {
     let mut headers: ListOf<FunHeader> = ListOf::new(scope.alloc);
@@ -314,7 +359,8 @@ fn member_of(scope: &mut Scope, header: &FunHeader, body: RawTerm) -> Result<Def
     requires stands { IsReadyScope scope.old }
     requires ready { IsReadyHeader scope.old header.now }
     ensures answer { let env = environment_of scope.old.world.names scope.old in
-        Answers (judge_member env (plain_header header.now) body.entry) plain_def result }
+        Meets (judge_member (first_of scope.old) env (plain_header header.now) body.entry) plain_def result (seen_by scope.old) (seen_by scope.new) }
+    ensures first { first_of scope.new ≡ first_of scope.old }
     ensures same { IsSameTo scope.old scope.new }
     ensures grows { Grows scope.old.world.sorts scope.new.world.sorts }
     ensures script { scope.new.world.script ≡ scope.old.world.script }
@@ -335,7 +381,7 @@ fn members_of(
     requires stands { IsReadyScope scope.old }
     requires ready { All (IsReadyHeader scope.old) headers.now }
     ensures answer { let env = environment_of scope.old.world.names scope.old in
-        Answers (judge_members env at (map plain_header headers.now) bodies.now) (λ ds. map plain_def ds) result }
+        Meets (judge_members (first_of scope.old) env at (map plain_header headers.now) bodies.now) (λ ds. map plain_def ds) result (seen_by scope.old) (seen_by scope.new) }
     ensures same { IsSameTo scope.old scope.new }
     ensures script { scope.new.world.script ≡ scope.old.world.script }
     ensures stands { IsReadyScope scope.new }
@@ -366,15 +412,17 @@ pub fn define_funs_rec(
     bodies: &RawTerms,
 ) -> Result<TypedCommand, StepError>
     requires stands { IsReadyScope scope.old }
+    requires begins { BeginsNames scope.old }
     requires logic { IsTrue scope.old.logic }
     requires named { AreNamed scope.old.world.names declarations.now }
     ensures answer { let names = scope.old.world.names in
-        AnswersParts (environment_of names scope.old) at (command.define_funs_rec declarations.now bodies.now) result (environment_of names scope.new) }
+        MeetsParts (environment_of names scope.old) at (command.define_funs_rec declarations.now bodies.now) result (environment_of names scope.new) (seen_by scope.new) }
     ensures names { scope.new.world.names ≡ scope.old.world.names }
     ensures script { scope.new.world.script ≡ scope.old.world.script }
     ensures stands { IsReadyScope scope.new }
 {
     let headers = headers_of(scope, declarations)?;
+    declare_names(scope, headers.as_slice())?;
     let defs = members_of(scope, at, headers.as_slice(), bodies)?;
     Ok(TypedCommand::DefineFunsRec { defs })
 }

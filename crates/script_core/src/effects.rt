@@ -13,7 +13,7 @@ ghost use Rattle.term_store.specs.Term.{plain_sort, plain_var, tree as term_tree
 ghost use Rattle.typer.specs.Typed.{AreBound};
 ghost use Rattle.script_core.specs.Environment.{start, theories_of};
 ghost use Rattle.script_core.specs.Rules.{after_option, judge_bool, judge_params, is_true as is_true_value, with_defined_sort, with_free_sort, with_function};
-ghost use Rattle.script_core.specs.Effects.{Answers, AnswersParts, AnswersSort, AnswersSorts, AnswersTerm, IsSameTo, OnlySortsGrow, step_error_of};
+ghost use Rattle.script_core.specs.Effects.{Answers, AnswersParts, AnswersSort, AnswersSorts, BeginsNames, CountsNames, DeclaresNoName, IsSameTo, Meets, MeetsParts, MeetsTerm, OnlySortsGrow, first_of, seen_by, step_error_of};
 ghost use Rattle.script_core.specs.Checking.{IsReadyScope, environment_of};
 
 use crate::logic::{core_alone, logic_theories};
@@ -131,7 +131,8 @@ pub fn term_of(
 ) -> Result<TermRef, StepError>
     requires stands { IsReadyScope scope.old }
     requires vars { AreBound scope.old.world vars.now }
-    ensures answer { AnswersTerm (environment_of scope.old.world.names scope.old) (map plain_var vars.now) term.entry result }
+    ensures answer { MeetsTerm (first_of scope.old) (environment_of scope.old.world.names scope.old) (map plain_var vars.now) term.entry result (seen_by scope.old) (seen_by scope.new) }
+    ensures first { first_of scope.new ≡ first_of scope.old }
     ensures same { IsSameTo scope.old scope.new }
     ensures grows { Grows scope.old.world.sorts scope.new.world.sorts }
     ensures script { scope.new.world.script ≡ scope.old.world.script }
@@ -153,7 +154,9 @@ fn is_bool(term: &TermRef) -> bool
 // The typed term of a term, which is of sort Bool.
 fn bool_term(scope: &mut Scope, term: RawTerm) -> Result<TermRef, StepError>
     requires stands { IsReadyScope scope.old }
-    ensures answer { Answers (judge_bool (environment_of scope.old.world.names scope.old) term.entry) term_tree result }
+    requires counts { CountsNames scope.old }
+    ensures answer { Meets (judge_bool (environment_of scope.old.world.names scope.old) term.entry) term_tree result (seen_by scope.old) (seen_by scope.new) }
+    ensures counts { CountsNames scope.new }
     ensures same { IsSameTo scope.old scope.new }
     ensures script { scope.new.world.script ≡ scope.old.world.script }
     ensures stands { IsReadyScope scope.new }
@@ -169,8 +172,9 @@ fn bool_term(scope: &mut Scope, term: RawTerm) -> Result<TermRef, StepError>
 /// Judges the term of an `assert`.
 pub fn assertion(scope: &mut Scope, at: u32, term: RawTerm) -> Result<TypedCommand, StepError>
     requires stands { IsReadyScope scope.old }
+    requires begins { BeginsNames scope.old }
     ensures answer { let names = scope.old.world.names in
-        AnswersParts (environment_of names scope.old) at (command.assert term.entry) result (environment_of names scope.new) }
+        MeetsParts (environment_of names scope.old) at (command.assert term.entry) result (environment_of names scope.new) (seen_by scope.new) }
     ensures names { scope.new.world.names ≡ scope.old.world.names }
     ensures script { scope.new.world.script ≡ scope.old.world.script }
     ensures stands { IsReadyScope scope.new }
@@ -186,8 +190,9 @@ pub fn assumptions(
     literals: &RawLiterals,
 ) -> Result<TypedCommand, StepError>
     requires stands { IsReadyScope scope.old }
+    requires begins { BeginsNames scope.old }
     ensures answer { let names = scope.old.world.names in
-        AnswersParts (environment_of names scope.old) at (command.check_sat_assuming literals.now) result (environment_of names scope.new) }
+        MeetsParts (environment_of names scope.old) at (command.check_sat_assuming literals.now) result (environment_of names scope.new) (seen_by scope.new) }
     ensures names { scope.new.world.names ≡ scope.old.world.names }
     ensures script { scope.new.world.script ≡ scope.old.world.script }
     ensures stands { IsReadyScope scope.new }
@@ -208,8 +213,9 @@ pub fn assumptions(
 /// Judges the terms of a `get-value`.
 pub fn values(scope: &mut Scope, at: u32, terms: &RawTerms) -> Result<TypedCommand, StepError>
     requires stands { IsReadyScope scope.old }
+    requires begins { BeginsNames scope.old }
     ensures answer { let names = scope.old.world.names in
-        AnswersParts (environment_of names scope.old) at (command.get_value terms.now) result (environment_of names scope.new) }
+        MeetsParts (environment_of names scope.old) at (command.get_value terms.now) result (environment_of names scope.new) (seen_by scope.new) }
     ensures names { scope.new.world.names ≡ scope.old.world.names }
     ensures script { scope.new.world.script ≡ scope.old.world.script }
     ensures stands { IsReadyScope scope.new }
@@ -246,6 +252,7 @@ pub fn add_function(
     ensures names { scope.new.world.names ≡ scope.old.world.names }
     ensures sorts { scope.new.world.sorts ≡ scope.old.world.sorts }
     ensures script { scope.new.world.script ≡ scope.old.world.script }
+    ensures unnamed { DeclaresNoName scope.old scope.new }
     ensures stands { IsReadyScope scope.new }
 {
     let Some(next) = scope.next.checked_add(1) else {
@@ -282,6 +289,7 @@ pub fn declare_const(
         AnswersParts (environment_of names scope.old) at (command.declare_const name.now sort.entry) result (environment_of names scope.new) }
     ensures names { scope.new.world.names ≡ scope.old.world.names }
     ensures script { scope.new.world.script ≡ scope.old.world.script }
+    ensures unnamed { DeclaresNoName scope.old scope.new }
     ensures stands { IsReadyScope scope.new }
 {
     if is_fun_in_use(&scope.world, name.name) {
@@ -312,6 +320,7 @@ pub fn declare_fun(
         AnswersParts (environment_of names scope.old) at (command.declare_fun name.now args.entry sort.entry) result (environment_of names scope.new) }
     ensures names { scope.new.world.names ≡ scope.old.world.names }
     ensures script { scope.new.world.script ≡ scope.old.world.script }
+    ensures unnamed { DeclaresNoName scope.old scope.new }
     ensures stands { IsReadyScope scope.new }
 {
     if is_fun_in_use(&scope.world, name.name) {
@@ -342,6 +351,7 @@ fn add_free_sort(scope: &mut Scope, name: NameId, arity: u32) -> Result<DeclNo, 
     ensures error { IfErr result (λ e. e ≡ StepError.NoMemory) }
     ensures names { scope.new.world.names ≡ scope.old.world.names }
     ensures script { scope.new.world.script ≡ scope.old.world.script }
+    ensures unnamed { DeclaresNoName scope.old scope.new }
     ensures stands { IsReadyScope scope.new }
 {
     let Some(next) = scope.next.checked_add(1) else {
@@ -375,6 +385,7 @@ pub fn declare_sort(
         AnswersParts (environment_of names scope.old) at (command.declare_sort name.now arity.now) result (environment_of names scope.new) }
     ensures names { scope.new.world.names ≡ scope.old.world.names }
     ensures script { scope.new.world.script ≡ scope.old.world.script }
+    ensures unnamed { DeclaresNoName scope.old scope.new }
     ensures stands { IsReadyScope scope.new }
 {
     if is_sort_in_use(&scope.world, name.name) {
@@ -435,6 +446,7 @@ fn add_defined_sort(
     ensures error { IfErr result (λ e. e ≡ StepError.NoMemory) }
     ensures names { scope.new.world.names ≡ scope.old.world.names }
     ensures script { scope.new.world.script ≡ scope.old.world.script }
+    ensures unnamed { DeclaresNoName scope.old scope.new }
     ensures stands { IsReadyScope scope.new }
 {
     let entry = SortEntry::Defined { params, sort };
@@ -459,6 +471,7 @@ pub fn define_sort(
         AnswersParts (environment_of names scope.old) at (command.define_sort name.now params.now sort.entry) result (environment_of names scope.new) }
     ensures names { scope.new.world.names ≡ scope.old.world.names }
     ensures script { scope.new.world.script ≡ scope.old.world.script }
+    ensures unnamed { DeclaresNoName scope.old scope.new }
     ensures stands { IsReadyScope scope.new }
 {
     if is_sort_in_use(&scope.world, name.name) {
@@ -496,6 +509,7 @@ pub fn set_logic(scope: &mut Scope, name: &Tok)
         env scope.new ≡ record (env scope.old) { logic = true; theories = theories_of (env scope.old) name.now } }
     ensures names { scope.new.world.names ≡ scope.old.world.names }
     ensures script { scope.new.world.script ≡ scope.old.world.script }
+    ensures unnamed { DeclaresNoName scope.old scope.new }
     ensures stands { IsReadyScope scope.new }
 {
     let theories = logic_theories(text_of(&scope.world.names, name.name));
@@ -510,6 +524,7 @@ fn set_global(scope: &mut Scope, attribute: &RawAttribute)
         environment_of names scope.new ≡ after_option (environment_of names scope.old) attribute.now }
     ensures names { scope.new.world.names ≡ scope.old.world.names }
     ensures script { scope.new.world.script ≡ scope.old.world.script }
+    ensures unnamed { DeclaresNoName scope.old scope.new }
     ensures stands { IsReadyScope scope.new }
 {
     if let RawAttributeKind::Valued { keyword, value } = attribute.kind() {
@@ -530,6 +545,7 @@ pub fn set_option(
         AnswersParts (environment_of names scope.old) at (command.set_option attribute.now) result (environment_of names scope.new) }
     ensures names { scope.new.world.names ≡ scope.old.world.names }
     ensures script { scope.new.world.script ≡ scope.old.world.script }
+    ensures unnamed { DeclaresNoName scope.old scope.new }
     ensures stands { IsReadyScope scope.new }
 {
     let key = attribute_key(attribute).name;
@@ -546,6 +562,7 @@ pub fn push(scope: &mut Scope, at: u32, count: &Tok) -> Result<TypedCommand, Ste
         AnswersParts (environment_of names scope.old) at (command.push count.now) result (environment_of names scope.new) }
     ensures names { scope.new.world.names ≡ scope.old.world.names }
     ensures script { scope.new.world.script ≡ scope.old.world.script }
+    ensures unnamed { DeclaresNoName scope.old scope.new }
     ensures stands { IsReadyScope scope.new }
 {
     let Some(levels) = value_of(&scope.world.names, count) else {
@@ -565,6 +582,7 @@ pub fn pop(scope: &mut Scope, at: u32, count: &Tok) -> Result<TypedCommand, Step
         AnswersParts (environment_of names scope.old) at (command.pop count.now) result (environment_of names scope.new) }
     ensures names { scope.new.world.names ≡ scope.old.world.names }
     ensures script { scope.new.world.script ≡ scope.old.world.script }
+    ensures unnamed { DeclaresNoName scope.old scope.new }
     ensures stands { IsReadyScope scope.new }
 {
     let Some(levels) = value_of(&scope.world.names, count) else {
@@ -583,6 +601,7 @@ pub fn reset(scope: &mut Scope)
         environment_of names scope.new ≡ record start { names = names; next = scope.old.next } }
     ensures names { scope.new.world.names ≡ scope.old.world.names }
     ensures script { scope.new.world.script ≡ scope.old.world.script }
+    ensures unnamed { DeclaresNoName scope.old scope.new }
     ensures stands { IsReadyScope scope.new }
 {
     scope.world.scopes.reset();
@@ -598,6 +617,7 @@ pub fn reset_assertions(scope: &mut Scope)
         env scope.new ≡ record (env scope.old) { declarations = without_assertions (env scope.old).declarations } }
     ensures names { scope.new.world.names ≡ scope.old.world.names }
     ensures script { scope.new.world.script ≡ scope.old.world.script }
+    ensures unnamed { DeclaresNoName scope.old scope.new }
     ensures stands { IsReadyScope scope.new }
 {
     scope.world.scopes.reset_assertions();

@@ -1,5 +1,5 @@
 //! A script keeps the definitions of its commands.
-ghost use Rattle.std.specs.Prelude.{◌≡◌, ◌∷◌, [], IfErr, IfOk, OnErr, OnOk};
+ghost use Rattle.std.specs.Prelude.{◌≡◌, ◌++◌, ◌∷◌, [], IfErr, IfOk, OnErr, OnOk};
 ghost use Rattle.term_store.specs.Definitions.{IsUnused};
 ghost use Rattle.script_core.specs.Keeping.{EachUnused, KeepsPart, definitions_in, with_definitions};
 
@@ -29,8 +29,8 @@ pub fn copy_of_vars(
     Ok(list)
 }
 
-// The same term once more. The only error is that memory runs out.
-fn copy_of_term(term: &TermRef) -> Result<TermRef, StepError>
+/// The same term once more. The only error is that memory runs out.
+pub fn copy_of_term(term: &TermRef) -> Result<TermRef, StepError>
     ensures ok { IfOk result (λ t. t ≡ term.now) }
     ensures err { IfErr result (λ e. e ≡ StepError.NoMemory) }
 {
@@ -88,12 +88,8 @@ fn keep_all(alloc: Global, script: &mut Script, defs: &[Def]) -> Result<(), Step
     Ok(())
 }
 
-/// Keeps the definitions of a command, those before an error too. The only error is that memory runs out.
-pub fn keep_definitions(
-    alloc: Global,
-    script: &mut Script,
-    command: &TypedCommand,
-) -> Result<(), StepError>
+// Keeps the definitions that a command makes, but for those of its named terms, as `keep_all`.
+fn keep_own(alloc: Global, script: &mut Script, command: &TypedCommand) -> Result<(), StepError>
     requires { EachUnused script.old.defs (definitions_in command.now) }
     ensures ok { OnOk result (script.new ≡ with_definitions script.old (definitions_in command.now)) }
     ensures err { IfErr result (λ e. e ≡ StepError.NoMemory) }
@@ -104,5 +100,24 @@ pub fn keep_definitions(
         TypedCommand::DefineFunRec { def } => keep_all(alloc, script, std::slice::from_ref(def)),
         TypedCommand::DefineFunsRec { defs } => keep_all(alloc, script, defs.as_slice()),
         _ => Ok(()),
+    }
+}
+
+/// Keeps the definitions of a command and then those of its named terms, those before an error too. The only error is that memory
+/// runs out.
+pub fn keep_definitions(
+    alloc: Global,
+    script: &mut Script,
+    command: &TypedCommand,
+    named: &[Def],
+) -> Result<(), StepError>
+    requires { EachUnused script.old.defs (definitions_in command.now ++ named.now) }
+    ensures ok { OnOk result (script.new ≡ with_definitions script.old (definitions_in command.now ++ named.now)) }
+    ensures err { IfErr result (λ e. e ≡ StepError.NoMemory) }
+    ensures left { OnErr result (KeepsPart script.old (definitions_in command.now ++ named.now) script.new) }
+{
+    match keep_own(alloc, script, command) {
+        Ok(()) => keep_all(alloc, script, named),
+        Err(error) => Err(error),
     }
 }

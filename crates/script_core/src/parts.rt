@@ -1,7 +1,7 @@
 //! What a command makes of the environment, once its form and mode are judged (SMT-LIB 2.6, section 4.2).
 ghost use Rattle.std.specs.Prelude.{◌≡◌};
 ghost use Rattle.cmd_grammar.specs.CommandViews.{command_from};
-ghost use Rattle.script_core.specs.Effects.{AnswersParts, IsDeclaredNamed, IsInMode};
+ghost use Rattle.script_core.specs.Effects.{BeginsNames, IsDeclaredNamed, IsInMode, MeetsParts, seen_by};
 ghost use Rattle.script_core.specs.Checking.{IsReadyScope, environment_of};
 
 use crate::definitions::{define_fun, define_fun_rec, define_funs_rec};
@@ -22,10 +22,11 @@ pub fn take_parts(
     command: RawCommandKind,
 ) -> Result<TypedCommand, StepError>
     requires stands { IsReadyScope scope.old }
+    requires begins { BeginsNames scope.old }
     requires named { IsDeclaredNamed scope.old.world.names (command_from command) }
     requires mode { IsInMode scope.old.logic (command_from command) }
     ensures answer { let names = scope.old.world.names in
-        AnswersParts (environment_of names scope.old) at (command_from command.entry) result (environment_of names scope.new) }
+        MeetsParts (environment_of names scope.old) at (command_from command.entry) result (environment_of names scope.new) (seen_by scope.new) }
     ensures names { scope.new.world.names ≡ scope.old.world.names }
     ensures script { scope.new.world.script ≡ scope.old.world.script }
     ensures stands { IsReadyScope scope.new }

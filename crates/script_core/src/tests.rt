@@ -1,6 +1,7 @@
 ghost use Rattle.std.specs.Prelude.{◌≡◌, false};
 
 mod definitions;
+mod naming;
 
 use super::*;
 use crate::rules::text_of;

@@ -98,7 +98,7 @@ module _ (n : ℕ) (signature : Signature) (below : AreFunctionsBelow n signatur
         quantifier_below false (term_at b) (judge_variables signature vs) (λ ws. judge_term signature (vars ++ ws) b) u before after (λ ws. applies_below b (vars ++ ws)) h
     applies_below (match_with at b cs) vars u before after h = absurd h
     applies_below (annotated at b ns) vars u before after (v, between, h, (ms, later, k, (made, same))) =
-        subst (AppliesBelow n) (sym made) (applies_below b vars v before between h, notes_apply_below ns vars ms between later k)
+        subst (AppliesBelow n) (sym made) (applies_below b vars v before between h, notes_apply_below ns vars v ms between later k)
 
     pub each_applies_below : (ts : Terms) (vars : List (ℕ × Sort)) (us : List PlainTerm) (before after : List ℕ) → judge_terms signature vars ts before (well_sorted us after) → EachAppliesBelow n (plain_terms us)
     each_applies_below no_terms vars us before after (made, same) = subst (λ z. EachAppliesBelow n (plain_terms z)) (sym made) tt
@@ -110,12 +110,12 @@ module _ (n : ℕ) (signature : Signature) (below : AreFunctionsBelow n signatur
     each_bound_below (with_binding at x t bs) vars others cs before after (c, between, (w, start, apart, (v, next, h, (e, f))), (rest, later, k, (made, same))) =
         subst EachBound (sym made) (subst (λ (z : Binding). AppliesBelow n z.1) (sym e) (applies_below t vars v start next h), each_bound_below bs vars (others ++ x.name ∷ []) rest between later k)
 
-    notes_apply_below : (ns : Notes) (vars : List (ℕ × Sort)) (ms : List PlainNote) (before after : List ℕ) → judge_notes signature vars ns before (well_sorted ms after) → NotesApplyBelow n (plain_notes ms)
-    notes_apply_below no_notes vars ms before after (made, same) = subst (λ z. NotesApplyBelow n (plain_notes z)) (sym made) tt
-    notes_apply_below (with_note m ns) vars ms before after (v, between, h, (rest, later, k, (made, same))) =
-        subst (λ z. NotesApplyBelow n (plain_notes z)) (sym made) (note_applies_below m vars v before between h, notes_apply_below ns vars rest between later k)
+    notes_apply_below : (ns : Notes) (vars : List (ℕ × Sort)) (u : PlainTerm) (ms : List PlainNote) (before after : List ℕ) → judge_notes signature vars u ns before (well_sorted ms after) → NotesApplyBelow n (plain_notes ms)
+    notes_apply_below no_notes vars u ms before after (made, same) = subst (λ z. NotesApplyBelow n (plain_notes z)) (sym made) tt
+    notes_apply_below (with_note m ns) vars u ms before after (v, between, h, (rest, later, k, (made, same))) =
+        subst (λ z. NotesApplyBelow n (plain_notes z)) (sym made) (note_applies_below m vars u v before between h, notes_apply_below ns vars u rest between later k)
 
-    note_applies_below : (m : Note) (vars : List (ℕ × Sort)) (v : PlainNote) (before after : List ℕ) → judge_note signature vars m before (well_sorted v after) → NoteAppliesBelow n v
-    note_applies_below (named_note t) vars v before after h = absurd h
-    note_applies_below (pattern_note ts) vars v before after (us, between, h, (made, same)) = subst (NoteAppliesBelow n) (sym made) (each_applies_below ts vars us before between h)
-    note_applies_below (attribute_note a) vars v before after (made, same) = subst (NoteAppliesBelow n) (sym made) tt
+    note_applies_below : (m : Note) (vars : List (ℕ × Sort)) (u : PlainTerm) (v : PlainNote) (before after : List ℕ) → judge_note signature vars u m before (well_sorted v after) → NoteAppliesBelow n v
+    note_applies_below (named_note t) vars u v before after (seen, start, h, (x, between, may, (y, later, k, (made, same)))) = subst (NoteAppliesBelow n) (sym made) tt
+    note_applies_below (pattern_note ts) vars u v before after (us, between, h, (made, same)) = subst (NoteAppliesBelow n) (sym made) (each_applies_below ts vars us before between h)
+    note_applies_below (attribute_note a) vars u v before after (made, same) = subst (NoteAppliesBelow n) (sym made) tt

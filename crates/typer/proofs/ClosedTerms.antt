@@ -1,16 +1,13 @@
 -- A sound term without free variables is sound whatever variables are bound round it.
-use Rattle.std.proofs.Common.{◌≡◌, ℕ, ◌==◌, ◌||◌, Bool, true, false, not, if◌then◌else◌, List, [], ◌∷◌, ◌++◌, length, map, Some, inl, inr, refl, ap, sym, ◌∙◌, subst, append_assoc, append-nil, arith}
-use Rattle.std.specs.List.{list_any}
+use Rattle.std.proofs.Common.{◌≡◌, ℕ, ◌==◌, ◌||◌, Bool, true, false, List, [], ◌∷◌, ◌++◌, length, map, inl, inr, refl, ap, sym, ◌∙◌, subst, append_assoc, append-nil, arith}
 use Rattle.std.proofs.lemmas.Bool.{cases_Bool, eqb-true, eq-eqb, not-false}
 use Rattle.std.proofs.lemmas.List.{length-map}
 use Rattle.sort_store.specs.Tree.{Sort}
-use Rattle.term_store.specs.Command.{PlainField}
-use Rattle.term_store.specs.declared.parts.Pattern.{Pattern}
 use Rattle.term_store.specs.declared.parts.Pattern.TheVariants as patterns
 use Rattle.term_store.specs.Declarations.{Declaration}
-use Rattle.term_store.specs.SoundTerms.{Bound, sort_bound, bound_also, bound_to, field_sorts, IsSoundTerm, IsSoundNode, AreSoundTerms, AreSoundCases, IsSoundNote, AreSoundNotes, IsSoundCase, plain_sorts}
+use Rattle.term_store.specs.SoundTerms.{Bound, sort_bound, bound_also, bound_to, field_sorts, IsSoundTerm, IsSoundNode, AreSoundTerms, AreSoundCases, IsSoundNote, AreSoundNotes, plain_sorts}
 use Rattle.term_store.specs.Term.{PlainTerm, PlainNode, Terms, Cases, Note, Notes, term, lit, var, app, let_in, quant, match_on, ann, no_terms, more_terms, no_cases, more_cases, named, pattern, other, no_notes, more_notes}
-use Rattle.typer.specs.FreeVariables.{is_one_of, pattern_names, has_free, node_has_free, any_has_free, any_case_has_free, any_note_has_free, note_has_free}
+use Rattle.typer.specs.FreeVariables.{is_one_of, has_free, node_has_free, any_has_free, any_case_has_free, any_note_has_free, note_has_free}
 
 -- the names have the same sorts in both
 abbrev Agree : List ℕ → Bound → Bound → Type 0

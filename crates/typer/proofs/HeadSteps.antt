@@ -131,22 +131,17 @@ head_made h f name indices s e g = ap (λ (z : Applied). (z, tree h.sort)) e ∙
 pub fault_moved : (e : TyError) (f : TyError) (J : Judging Head) → e ≡ f → Answers {A = Head} (Err f) J → Answers {A = Head} (Err e) J
 fault_moved e f J same h = subst (λ z. Answers {A = Head} (Err z) J) (sym same) h
 
-schemas_interned : (texts : List (List ℕ)) (store : List Sort) (params : ℕ) (rs : List NumberedSort) → All (IsReadySchema texts store params) rs → AllInterned store rs
+pub schemas_interned : (texts : List (List ℕ)) (store : List Sort) (params : ℕ) (rs : List NumberedSort) → All (IsReadySchema texts store params) rs → AllInterned store rs
 schemas_interned texts store params [] h = tt
 schemas_interned texts store params (r ∷ rs) h = ((h zero r (omega arith)).interned, schemas_interned texts store params rs (λ k d l. h (suc k) d (omega (arith, l))))
 
-schemas_below : (texts : List (List ℕ)) (store : List Sort) (params : ℕ) (rs : List NumberedSort) → All (IsReadySchema texts store params) rs → EachParamsBelow params (trees (nodes rs))
+pub schemas_below : (texts : List (List ℕ)) (store : List Sort) (params : ℕ) (rs : List NumberedSort) → All (IsReadySchema texts store params) rs → EachParamsBelow params (trees (nodes rs))
 schemas_below texts store params [] h = tt
 schemas_below texts store params (r ∷ rs) h = (params_below texts params (tree r) (h zero r (omega arith)).ready, schemas_below texts store params rs (λ k d l. h (suc k) d (omega (arith, l))))
 
 -- a live declaration of a ready world may be matched with argument sorts
 pub entry_ready : (world : World) (name : ℕ) (f : FunEntry) → IsReady world → found name world.scopes.funs ≡ Some f → IsReadyEntry world.sorts f
-entry_ready world name f ready e = let h = (fun_kept world name f ready e).entry in record {
-  args = schemas_interned world.names world.sorts f.params f.args h.args;
-  result = h.result.interned;
-  args_below = schemas_below world.names world.sorts f.params f.args h.args;
-  result_below = params_below world.names f.params (tree f.result) h.result.ready;
-}
+entry_ready world name f ready e = (fun_kept world name f ready e).entry
 
 -- a symbol with its index
 pub index_head : (r : Result TypedHead TyError) (symbol : TypedHead) (f : Function) (name index : ℕ) (s : NumberedSort) (signature : Signature) (at : ℕ) (args : List Sort) (asked : Option Sort)

@@ -31,7 +31,6 @@ pub mod TermLaws
 pub mod SoundInstances
 pub mod SoundSorts
 pub mod SoundVariables
-pub mod NoNames
 pub mod SoundRanks
 pub mod CoreNames
 pub mod RankTables
@@ -44,3 +43,6 @@ pub mod SoundTerms
 pub mod AppliedNumbers
 pub mod FreeWalks
 pub mod ClosedTerms
+pub mod NamesGiven
+pub mod EachNamed
+pub mod SoundNames

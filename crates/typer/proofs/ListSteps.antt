@@ -5,7 +5,7 @@ use Rattle.std.proofs.lemmas.List.{map-append}
 use Rattle.judgement.specs.Judging.{Judging, Outcome, well_sorted, ill_sorted, done, ◌>>=◌}
 use Rattle.typer.specs.declared.error.TyError.{TyError}
 use Rattle.typer.specs.declared.error.TyError.TheVariants as error
-use Rattle.typer.specs.Answers.{Answers}
+use Rattle.typer.specs.Answers.{Meets}
 
 -- the outcome with some values before the others
 abbrev pub prefixed : {T : Type 0} → List T → Outcome (List T) → Outcome (List T)
@@ -17,12 +17,13 @@ abbrev pub Joins : {T A AS : Type 0} → (A → AS → AS) → (A → Judging T)
 Joins {T} {A} {AS} with_first each all =
     (a : A) (rest : AS) (before : List ℕ) (o : Outcome (List T)) → (each a >>= (λ t. all rest >>= (λ ts. done (t ∷ ts)))) before o → all (with_first a rest) before o
 
--- what the parts that are left have as outcome, all have it with the values so far before it
-abbrev pub Leads : {T : Type 0} → Judging (List T) → Judging (List T) → List T → Type 0
-Leads {T} whole left made = (before : List ℕ) (o : Outcome (List T)) → left before o → whole before (prefixed made o)
+-- What the parts that are left have as outcome after these names, all have it with the values so far before it, after the names
+-- at the start.
+abbrev pub Leads : {T : Type 0} → Judging (List T) → Judging (List T) → List T → List ℕ → List ℕ → Type 0
+Leads {T} whole left made start so_far = (o : Outcome (List T)) → left so_far o → whole start (prefixed made o)
 
-abbrev pub Onward : {T AS : Type 0} → (AS → Judging (List T)) → AS → AS → List T → Type 0
-Onward {T} {AS} all whole left made = Leads (all whole) (all left) made
+abbrev pub Onward : {T AS : Type 0} → (AS → Judging (List T)) → AS → AS → List T → List ℕ → List ℕ → Type 0
+Onward {T} {AS} all whole left made start so_far = Leads (all whole) (all left) made start so_far
 
 -- a part, and the others after it
 abbrev pub Begins : {T : Type 0} → Judging (List T) → Judging T → Judging (List T) → Type 0
@@ -38,41 +39,41 @@ module _ {T : Type 0} where
   prefixed_none (well_sorted us after) = refl
   prefixed_none (ill_sorted place) = refl
 
-  pub onward_all : {AS : Type 0} (all : AS → Judging (List T)) (whole left : AS) → left ≡ whole → Onward all whole left []
-  onward_all all whole left e before o h = subst (all whole before) (sym (prefixed_none o)) (subst (λ z. all z before o) e h)
+  pub onward_all : {AS : Type 0} (all : AS → Judging (List T)) (whole left : AS) (start : List ℕ) → left ≡ whole → Onward all whole left [] start start
+  onward_all all whole left start e o h = subst (all whole start) (sym (prefixed_none o)) (subst (λ z. all z start o) e h)
 
 -- a turn of a loop over the parts that are left, by the judgements of all, of those left, of the first and of the others
-module _ {T : Type 0} (whole left : Judging (List T)) (each : Judging T) (rest : Judging (List T)) (made : List T) (begins : Begins left each rest) (leads : Leads whole left made) where
-  begin : (t : T) (before : List ℕ) (o : Outcome (List T)) → Answers (Ok t) each → rest before o → left before (prefixed (t ∷ []) o)
-  begin t before (well_sorted us after) h k = begins before (well_sorted (t ∷ us) after) (t, before, h before, (us, after, k, (refl, refl)))
-  begin t before (ill_sorted place) h k = begins before (ill_sorted place) (inr (t, before, h before, inl k))
+module _ {T : Type 0} (whole left : Judging (List T)) (each : Judging T) (rest : Judging (List T)) (made : List T) (start so_far : List ℕ) (begins : Begins left each rest) (leads : Leads whole left made start so_far) where
+  begin : (t : T) (later : List ℕ) (o : Outcome (List T)) → Meets (Ok t) each so_far later → rest later o → left so_far (prefixed (t ∷ []) o)
+  begin t later (well_sorted us after) h k = begins so_far (well_sorted (t ∷ us) after) (t, later, h, (us, after, k, (refl, refl)))
+  begin t later (ill_sorted place) h k = begins so_far (ill_sorted place) (inr (t, later, h, inl k))
 
-  pub leads_on : (t : T) → Answers (Ok t) each → Leads whole rest (made ++ t ∷ [])
-  leads_on t h before o k = subst (λ z. whole before z) (prefixed_more made t o) (leads before (prefixed (t ∷ []) o) (begin t before o h k))
+  pub leads_on : (t : T) (later : List ℕ) → Meets (Ok t) each so_far later → Leads whole rest (made ++ t ∷ []) start later
+  leads_on t later h o k = subst (λ z. whole start z) (prefixed_more made t o) (leads (prefixed (t ∷ []) o) (begin t later o h k))
 
-  pub leads_fault : (e : TyError) → Answers {A = T} (Err e) each → Answers {A = List T} (Err e) whole
-  leads_fault (error.Fault place) h = λ before. leads before (ill_sorted place) (begins before (ill_sorted place) (inl (h before)))
-  leads_fault error.NoMemory h = tt
+  pub leads_fault : (e : TyError) (later after : List ℕ) → Meets {A = T} (Err e) each so_far later → Meets {A = List T} (Err e) whole start after
+  leads_fault (error.Fault place) later after h = leads (ill_sorted place) (begins so_far (ill_sorted place) (inl h))
+  leads_fault error.NoMemory later after h = tt
 
 -- no part is left
-pub leads_end : {T : Type 0} (whole left : Judging (List T)) (made : List T) → ((before : List ℕ) → left before (well_sorted [] before)) → Leads whole left made → Answers (Ok made) whole
-leads_end whole left made none leads before = subst (λ ts. whole before (well_sorted ts before)) (append-nil made) (leads before (well_sorted [] before) (none before))
+pub leads_end : {T : Type 0} (whole left : Judging (List T)) (made : List T) (start so_far : List ℕ) → left so_far (well_sorted [] so_far) → Leads whole left made start so_far → Meets (Ok made) whole start so_far
+leads_end whole left made start so_far none leads = subst (λ ts. whole start (well_sorted ts so_far)) (append-nil made) (leads (well_sorted [] so_far) none)
 
 module _ {T R A AS : Type 0} (value : R → T) (with_first : A → AS → AS) (each : A → Judging T) (all : AS → Judging (List T)) (joins : Joins with_first each all) where
   -- the same of lists whose parts are judged by one judgement
-  module _ (whole left rest : AS) (a : A) (made : List R) (shown : left ≡ with_first a rest) (onward : Onward all whole left (map value made)) where
+  module _ (whole left rest : AS) (a : A) (made : List R) (start so_far : List ℕ) (shown : left ≡ with_first a rest) (onward : Onward all whole left (map value made) start so_far) where
     begins_with : Begins (all left) (each a) (all rest)
     begins_with before o h = subst (λ z. all z before o) (sym shown) (joins a rest before o h)
 
-    pub part_step : (next : AS) (new : List R) (r : R) → next ≡ rest → Answers (Ok (value r)) (each a) → new ≡ made ++ r ∷ [] → Onward all whole next (map value new)
-    part_step next new r e h put =
-        subst (λ z. Onward all whole z (map value new)) (sym e)
-        (subst (Leads (all whole) (all rest)) (sym (ap (map value) put ∙ map-append value made (r ∷ [])))
-        (leads_on (all whole) (all left) (each a) (all rest) (map value made) begins_with onward (value r) h))
+    pub part_step : (next : AS) (new : List R) (r : R) (later : List ℕ) → next ≡ rest → Meets (Ok (value r)) (each a) so_far later → new ≡ made ++ r ∷ [] → Onward all whole next (map value new) start later
+    part_step next new r later e h put =
+        subst (λ z. Onward all whole z (map value new) start later) (sym e)
+        (subst (λ z. Leads (all whole) (all rest) z start later) (sym (ap (map value) put ∙ map-append value made (r ∷ [])))
+        (leads_on (all whole) (all left) (each a) (all rest) (map value made) start so_far begins_with onward (value r) later h))
 
-    pub part_fault : (e : TyError) → Answers {A = T} (Err e) (each a) → Answers {A = List T} (Err e) (all whole)
-    part_fault e h = leads_fault (all whole) (all left) (each a) (all rest) (map value made) begins_with onward e h
+    pub part_fault : (e : TyError) (later after : List ℕ) → Meets {A = T} (Err e) (each a) so_far later → Meets {A = List T} (Err e) (all whole) start after
+    part_fault e later after h = leads_fault (all whole) (all left) (each a) (all rest) (map value made) start so_far begins_with onward e later after h
 
-pub no_part : {T AS : Type 0} (all : AS → Judging (List T)) (whole left : AS) (made : List T) → ((before : List ℕ) → all left before (well_sorted [] before)) → Onward all whole left made
-    → Answers (Ok made) (all whole)
-no_part all whole left made none onward = leads_end (all whole) (all left) made none onward
+pub no_part : {T AS : Type 0} (all : AS → Judging (List T)) (whole left : AS) (made : List T) (start so_far : List ℕ) → all left so_far (well_sorted [] so_far) → Onward all whole left made start so_far
+    → Meets (Ok made) (all whole) start so_far
+no_part all whole left made start so_far none onward = leads_end (all whole) (all left) made start so_far none onward

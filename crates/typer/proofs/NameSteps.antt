@@ -18,7 +18,7 @@ use Rattle.typer.specs.declared.error.TyError.TheVariants as error
 use Rattle.typer.specs.declared.world.World.{World}
 use Rattle.typer.specs.Declarations.{sort_declaration, declarations_of}
 use Rattle.typer.specs.Answers.{Answers}
-use Rattle.typer.specs.Ready.{IsReady, IsReadySort, IsReadyFun, IsReadyHead, IsReadyTree, AreReadyTrees}
+use Rattle.typer.specs.Ready.{IsReady, IsReadySort, IsReadyFunEntry, IsReadyHead, IsReadyTree, AreReadyTrees}
 use Rattle.typer.specs.SortSymbols.{Meaning, symbol_of, theory_symbol, declared_symbol, meaning, or_else}
 use Rattle.typer.specs.SortRules.{judge_meaning, judge_name}
 use Rattle.typer.proofs.DeclarationsByTrees.{sort_found}
@@ -38,8 +38,8 @@ module _ {X : Type 0} (P : ℕ × X → Type 0) (name : ℕ) where
 pub sort_kept : (world : World) (name : ℕ) (d : SortEntry) → IsReady world → found name world.scopes.sorts ≡ Some d → IsReadySort world.names world.theories world.sorts (name, d)
 sort_kept world name d ready e = lookup_all (IsReadySort world.names world.theories world.sorts) name (live world.scopes.sorts) d ready.sorts e
 
-pub fun_kept : (world : World) (name : ℕ) (f : FunEntry) → IsReady world → found name world.scopes.funs ≡ Some f → IsReadyFun world.names world.sorts (name, f)
-fun_kept world name f ready e = lookup_all (IsReadyFun world.names world.sorts) name (live world.scopes.funs) f ready.funs e
+pub fun_kept : (world : World) (name : ℕ) (f : FunEntry) → IsReady world → found name world.scopes.funs ≡ Some f → IsReadyFunEntry world.sorts f
+fun_kept world name f ready e = lookup_all (λ (d : ℕ × FunEntry). IsReadyFunEntry world.sorts d.1) name (live world.scopes.funs) f ready.funs e
 
 mutual
   pub params_below : (texts : List (List ℕ)) (params : ℕ) (t : Sort) → IsReadyTree texts params t → ParamsBelow params t

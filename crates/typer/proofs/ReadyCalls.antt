@@ -1,5 +1,5 @@
 -- A world stays ready through the calls that change its names or its scopes.
-use Rattle.std.proofs.Common.{◌≡◌, ℕ, zero, suc, ◌<◌, Bool, false, List, [], ◌∷◌, ◌++◌, length, slice_index_or, arith, refl, ap, sym, ◌∙◌, subst, length-append}
+use Rattle.std.proofs.Common.{◌≡◌, ℕ, zero, suc, ◌<◌, ◌≤◌, Bool, false, List, [], ◌∷◌, ◌++◌, length, slice_index_or, arith, refl, ap, sym, ◌∙◌, subst, length-append}
 use Rattle.std.specs.List.{All}
 use Rattle.lex_core.specs.LexerCalls.{ExtendsTable}
 use Rattle.sig_table.specs.declared.theories.Theories.{Theories}
@@ -14,7 +14,9 @@ use Rattle.scope_stack.specs.Levels.{live}
 use Rattle.scope_stack.specs.Environment.{Environment, empty, with_fun, with_sort, with_global, with_pushed, with_popped, without_assertions}
 use Rattle.typer.specs.declared.world.World.{World}
 use Rattle.typer.specs.SortSymbols.{is_theory_text, is_theory_sort}
-use Rattle.typer.specs.Ready.{IsReadyHead, IsReadyTree, AreReadyTrees, IsReadySchema, IsReadySortEntry, IsReadyFunEntry, IsReadySort, IsReadyFun, IsReady}
+use Rattle.typer.specs.Ready.{IsReadyHead, IsReadyTree, AreReadyTrees, IsReadySchema, IsReadySortEntry, IsReadyFunEntry, IsReadySort, IsReady, may_have_params}
+use Rattle.typer.proofs.HeadSteps.{schemas_below, schemas_interned}
+use Rattle.typer.proofs.NameSteps.{params_below}
 use Rattle.typer.proofs.LiveDeclarations.{Each, each_of_all, all_of_each, each_declared, each_opened, each_closed, each_global}
 
 abbrev with_scopes : Environment → World → World
@@ -25,7 +27,7 @@ module _ (world : World) (ready : IsReady world) where
   OfSort = IsReadySort world.names world.theories world.sorts
 
   abbrev OfFun : ℕ × FunEntry → Type 0
-  OfFun = IsReadyFun world.names world.sorts
+  OfFun d = IsReadyFunEntry world.sorts d.1
 
   sorts_each : Each OfSort (live world.scopes.sorts)
   sorts_each = each_of_all OfSort (live world.scopes.sorts) ready.sorts
@@ -34,12 +36,12 @@ module _ (world : World) (ready : IsReady world) where
   funs_each = each_of_all OfFun (live world.scopes.funs) ready.funs
 
   ready_with : (scopes : Environment) → Each OfSort (live scopes.sorts) → Each OfFun (live scopes.funs) → IsReady (with_scopes scopes world)
-  ready_with scopes h k = record { distinct = ready.distinct; sorts = all_of_each OfSort (live scopes.sorts) h; funs = all_of_each OfFun (live scopes.funs) k }
+  ready_with scopes h k = record { distinct = ready.distinct; sorts = all_of_each OfSort (live scopes.sorts) h; funs = all_of_each OfFun (live scopes.funs) k; numbered = ready.numbered }
 
   pub ready_with_sort : (name : ℕ) (d : SortEntry) → IsReadySort world.names world.theories world.sorts (name, d) → IsReady (with_scopes (with_sort name d world.scopes) world)
   ready_with_sort name d h = ready_with (with_sort name d world.scopes) (each_declared OfSort world.scopes.global (name, d) world.scopes.sorts h sorts_each) funs_each
 
-  pub ready_with_fun : (name : ℕ) (d : FunEntry) → IsReadyFun world.names world.sorts (name, d) → IsReady (with_scopes (with_fun name d world.scopes) world)
+  pub ready_with_fun : (name : ℕ) (d : FunEntry) → IsReadyFunEntry world.sorts d → IsReady (with_scopes (with_fun name d world.scopes) world)
   ready_with_fun name d h = ready_with (with_fun name d world.scopes) sorts_each (each_declared OfFun world.scopes.global (name, d) world.scopes.funs h funs_each)
 
   pub ready_with_global : (on : Bool) → IsReady (with_scopes (with_global on world.scopes) world)
@@ -55,8 +57,28 @@ module _ (world : World) (ready : IsReady world) where
   ready_without_assertions = ready_with (without_assertions world.scopes) (each_global OfSort world.scopes.sorts sorts_each) (each_global OfFun world.scopes.funs funs_each)
 
 -- where nothing is declared, the theories may be any
-pub ready_empty : (world : World) → world.scopes ≡ empty → HasNoRepeats world.sorts → IsReady world
-ready_empty world e distinct = record { distinct = distinct; sorts = subst (λ s. All (IsReadySort world.names world.theories world.sorts) (live s.sorts)) (sym e) (all_of_each _ [] tt); funs = subst (λ s. All (IsReadyFun world.names world.sorts) (live s.funs)) (sym e) (all_of_each _ [] tt) }
+pub ready_empty : (world : World) → world.scopes ≡ empty → HasNoRepeats world.sorts → length world.seen.items ≤ world.next.0 → IsReady world
+ready_empty world e distinct numbered = record {
+  distinct = distinct;
+  sorts = subst (λ s. All (IsReadySort world.names world.theories world.sorts) (live s.sorts)) (sym e) (all_of_each _ [] tt);
+  funs = subst (λ s. All (λ (d : ℕ × FunEntry). IsReadyFunEntry world.sorts d.1) (live s.funs)) (sym e) (all_of_each _ [] tt);
+  numbered = numbered;
+}
+
+-- no name is declared
+pub none_numbered : (world : World) → world.seen.items ≡ [] → length world.seen.items ≤ world.next.0
+none_numbered world e = omega (arith, ap length e)
+
+-- a live function whose sorts may stand in a declaration
+pub fun_of_schemas : (texts : List (List ℕ)) (store : List Sort) (f : FunEntry) → All (IsReadySchema texts store f.params) f.args → IsReadySchema texts store f.params f.result → (may_have_params f.kind ≡ false → f.params ≡ 0) → IsReadyFunEntry store f
+fun_of_schemas texts store f args result none = record {
+  entry = record {
+    args = schemas_interned texts store f.params f.args args;
+    result = result.interned;
+    below = λ n. (schemas_below texts store f.params f.args args, params_below texts f.params (tree f.result) result.ready);
+  };
+  params = none;
+}
 
 -- a table that gains texts
 module _ (texts more : List (List ℕ)) where
@@ -96,9 +118,6 @@ module _ (texts more : List (List ℕ)) where
   entry_kept store (entry.Data number arity) h = h
   entry_kept store (entry.Defined params body) h = schema_kept store params body h
 
-  fun_kept : (store : List Sort) (f : FunEntry) → IsReadyFunEntry texts store f → IsReadyFunEntry (texts ++ more) store f
-  fun_kept store f h = record { args = λ i r l. schema_kept store f.params _ (h.args i r l); result = schema_kept store f.params f.result h.result; params = h.params }
-
 abbrev with_names : List (List ℕ) → World → World
 with_names texts world = record world { names = texts }
 
@@ -107,7 +126,8 @@ ready_with_names world texts (more, e) ready = subst (λ t. IsReady (with_names 
   distinct = ready.distinct;
   sorts = λ k d l. (let h = ready.sorts k d l in
       record { name = longer world.names more _ h.name; no_theory_sort = theory_sort_kept world.names more world.theories _ h.name h.no_theory_sort; entry = entry_kept world.names more world.sorts _ h.entry });
-  funs = λ k d l. (let h = ready.funs k d l in record { name = longer world.names more _ h.name; entry = fun_kept world.names more world.sorts _ h.entry });
+  funs = ready.funs;
+  numbered = ready.numbered;
 })
 
 pub ready_declared : (world : World) (scopes : Environment) (name : ℕ) (d : SortEntry) → scopes ≡ with_sort name d world.scopes → IsReady world → name < length world.names
@@ -122,4 +142,4 @@ ready_stays world scopes e ready = subst (λ s. IsReady (with_scopes s world)) (
 pub no_repeats_of_none : HasNoRepeats []
 no_repeats_of_none = record { distinct = λ i j t e f. cc }
 
-pub ruleset ready_calls = (ready_declared, ready_stays, ready_with_names, ready_empty, no_repeats_of_none)
+pub ruleset ready_calls = (ready_declared, ready_stays, ready_with_names, ready_empty, none_numbered, no_repeats_of_none)

@@ -82,7 +82,7 @@ module _ (script : List Declaration) (signature : Signature) (sound : IsSoundSig
         (λ ws v first second own. sound_term b (vars ++ ws) (vars_append script vars ws given own) v first second) h
     sound_term (match_with at b cs) vars given u before after h = absurd h
     sound_term (annotated at b ns) vars given u before after (v, between, h, (ms, later, k, (made, same))) =
-        subst (IsSoundTerm script (bound_also vars [])) (sym made) (annotation_sound script (bound_also vars []) v ms (sound_term b vars given v before between h) (sound_notes ns vars given ms between later k))
+        subst (IsSoundTerm script (bound_also vars [])) (sym made) (annotation_sound script (bound_also vars []) v ms (sound_term b vars given v before between h) (sound_notes ns vars given v ms between later k))
 
     pub sound_terms : (ts : Terms) (vars : List (ℕ × Sort)) → AreSoundVars script vars → (us : List PlainTerm) (before after : List ℕ) → judge_terms signature vars ts before (well_sorted us after)
         → AreSoundTerms script (bound_also vars []) (plain_terms us)
@@ -90,20 +90,20 @@ module _ (script : List Declaration) (signature : Signature) (sound : IsSoundSig
     sound_terms (with_term t ts) vars given us before after (u, between, h, (rest, later, k, (made, same))) =
         subst (λ z. AreSoundTerms script (bound_also vars []) (plain_terms z)) (sym made) (sound_term t vars given u before between h, sound_terms ts vars given rest between later k)
 
-    sound_bindings : (bs : Bindings) (vars : List (ℕ × Sort)) → AreSoundVars script vars → (others : List ℕ) (cs : List Binding) (before after : List ℕ) → judge_bindings signature vars others bs before (well_sorted cs after)
+    pub sound_bindings : (bs : Bindings) (vars : List (ℕ × Sort)) → AreSoundVars script vars → (others : List ℕ) (cs : List Binding) (before after : List ℕ) → judge_bindings signature vars others bs before (well_sorted cs after)
         → AreSoundTerms script (bound_also vars []) (plain_terms (map (λ (b : Binding). b.1) cs))
     sound_bindings no_bindings vars given others cs before after (made, same) = subst (λ (z : List Binding). AreSoundTerms script (bound_also vars []) (plain_terms (map (λ (b : Binding). b.1) z))) (sym made) tt
     sound_bindings (with_binding at x t bs) vars given others cs before after (c, between, (w, start, apart, (v, next, h, (e, f))), (rest, later, k, (made, same))) =
         subst (λ (z : List Binding). AreSoundTerms script (bound_also vars []) (plain_terms (map (λ (b : Binding). b.1) z))) (sym made)
         (subst (λ (z : Binding). IsSoundTerm script (bound_also vars []) z.1) (sym e) (sound_term t vars given v start next h), sound_bindings bs vars given (others ++ x.name ∷ []) rest between later k)
 
-    sound_notes : (ns : Notes) (vars : List (ℕ × Sort)) → AreSoundVars script vars → (ms : List PlainNote) (before after : List ℕ) → judge_notes signature vars ns before (well_sorted ms after)
+    sound_notes : (ns : Notes) (vars : List (ℕ × Sort)) → AreSoundVars script vars → (u : PlainTerm) (ms : List PlainNote) (before after : List ℕ) → judge_notes signature vars u ns before (well_sorted ms after)
         → AreSoundNotes script (bound_also vars []) (plain_notes ms)
-    sound_notes no_notes vars given ms before after (made, same) = subst (λ z. AreSoundNotes script (bound_also vars []) (plain_notes z)) (sym made) tt
-    sound_notes (with_note n ns) vars given ms before after (m, between, h, (rest, later, k, (made, same))) =
-        subst (λ z. AreSoundNotes script (bound_also vars []) (plain_notes z)) (sym made) (sound_note n vars given m before between h, sound_notes ns vars given rest between later k)
+    sound_notes no_notes vars given u ms before after (made, same) = subst (λ z. AreSoundNotes script (bound_also vars []) (plain_notes z)) (sym made) tt
+    sound_notes (with_note n ns) vars given u ms before after (m, between, h, (rest, later, k, (made, same))) =
+        subst (λ z. AreSoundNotes script (bound_also vars []) (plain_notes z)) (sym made) (sound_note n vars given u m before between h, sound_notes ns vars given u rest between later k)
 
-    sound_note : (n : Note) (vars : List (ℕ × Sort)) → AreSoundVars script vars → (m : PlainNote) (before after : List ℕ) → judge_note signature vars n before (well_sorted m after) → IsSoundNote script (bound_also vars []) m
-    sound_note (named_note t) vars given m before after h = absurd h
-    sound_note (pattern_note ts) vars given m before after (us, between, h, (made, same)) = subst (IsSoundNote script (bound_also vars [])) (sym made) (sound_terms ts vars given us before between h)
-    sound_note (attribute_note a) vars given m before after (made, same) = subst (IsSoundNote script (bound_also vars [])) (sym made) tt
+    sound_note : (n : Note) (vars : List (ℕ × Sort)) → AreSoundVars script vars → (u : PlainTerm) (m : PlainNote) (before after : List ℕ) → judge_note signature vars u n before (well_sorted m after) → IsSoundNote script (bound_also vars []) m
+    sound_note (named_note t) vars given u m before after (seen, start, h, (x, between, may, (y, later, k, (made, same)))) = subst (IsSoundNote script (bound_also vars [])) (sym made) tt
+    sound_note (pattern_note ts) vars given u m before after (us, between, h, (made, same)) = subst (IsSoundNote script (bound_also vars [])) (sym made) (sound_terms ts vars given us before between h)
+    sound_note (attribute_note a) vars given u m before after (made, same) = subst (IsSoundNote script (bound_also vars [])) (sym made) tt

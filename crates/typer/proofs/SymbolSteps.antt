@@ -2,11 +2,11 @@
 use Rattle.std.proofs.Common.{◌≡◌, ◌==◌, ℕ, Bool, true, false, if◌then◌else◌, List, [], ◌∷◌, map, Option, Some, None, Result, Ok, Err, refl, ap, sym, ◌∙◌, inl, subst}
 use Rattle.std.specs.Option.{option_map, IfSome}
 use Rattle.std.specs.Result.{IfErr, IfOk}
-use Rattle.judgement.specs.Judging.{Judging, done, ◌>>=◌}
+use Rattle.judgement.specs.Judging.{Judging, well_sorted, done, ◌>>=◌}
 use Rattle.lex_core.specs.declared.token.Tok.{Tok}
 use Rattle.sig_table.specs.declared.code.Code.TheVariants.{AppliedVariable}
 use Rattle.term_grammar.specs.Syntax as syntax
-use Rattle.term_grammar.specs.Syntax.{Identifier, symbol, indexed, Qualified, Terms, Bindings, Notes, Note}
+use Rattle.term_grammar.specs.Syntax.{Identifier, symbol, indexed, Qualified, Terms}
 use Rattle.term_grammar.specs.declared.identifier.RawIdentifierKind.TheVariants as kind
 use Rattle.term_grammar.specs.IdentifierViews.{identifier_kind}
 use Rattle.sort_store.specs.Tree.{Sort, NumberedSort}
@@ -21,14 +21,14 @@ use Rattle.typer.specs.declared.head.TypedHead.{TypedHead}
 use Rattle.typer.specs.declared.typed.TypedTerm.{TypedTerm}
 use Rattle.typer.specs.declared.typed.TypedTerms.{TypedTerms}
 use Rattle.typer.specs.declared.world.World.{World}
-use Rattle.typer.specs.Answers.{Answers, head_answer, typed_answer}
+use Rattle.typer.specs.Answers.{Answers, Meets, head_answer, typed_answer}
 use Rattle.typer.specs.FunctionSymbols.{Signature, signature_of}
 use Rattle.typer.specs.SortSymbols.{or_else}
-use Rattle.typer.specs.TermRules.{Binding, PlainNote, apply_head, bound, identifier_of, judge_application, judge_asked, judge_bindings, judge_head, judge_indexed_head, judge_indexed_symbol, judge_note, judge_notes, judge_symbol, judge_term, judge_terms, judge_variable}
-use Rattle.typer.specs.Typed.{AreBound, HasGrown}
+use Rattle.typer.specs.TermRules.{apply_head, bound, identifier_of, judge_application, judge_asked, judge_head, judge_indexed_head, judge_indexed_symbol, judge_symbol, judge_term, judge_terms, judge_variable}
+use Rattle.typer.specs.Typed.{AreBound, HasElaborated}
 use Rattle.typer.proofs.RankAnswers.{fault_at}
-use Rattle.typer.proofs.TermSteps.{first_is, first_fails}
-use Rattle.typer.proofs.TypedSteps.{same_signature}
+use Rattle.typer.proofs.TermSteps.{first_is, first_fails, meets, then_is, then_fails}
+use Rattle.typer.proofs.TypedSteps.{elaborated_signature}
 
 abbrev pub Head : Type 0
 Head = Applied × Sort
@@ -75,6 +75,11 @@ bound_interned world vars name r h e = subst (λ o. IfSome o (IsInterned world.s
 pub made_answer : (r : Result TypedTerm TyError) (x : PlainTerm) (J : Judging PlainTerm) → IfOk r (λ t. tree t.term ≡ x) → IfErr r (λ e. e ≡ error.NoMemory) → Answers (Ok x) J → Answers (typed_answer r) J
 made_answer (Ok t) x J e err h = subst (λ z. Answers (Ok z) J) (sym e) h
 made_answer (Err e) x J ok same h = subst (λ z. Answers {A = PlainTerm} (Err z) J) (sym same) tt
+
+pub made_meets : (r : Result TypedTerm TyError) (x : PlainTerm) (J : Judging PlainTerm) (before between after : List ℕ) → IfOk r (λ t. tree t.term ≡ x) → IfErr r (λ e. e ≡ error.NoMemory) → after ≡ between → Meets (Ok x) J before between
+    → Meets (typed_answer r) J before after
+made_meets (Ok t) x J before between after e err same h = subst (λ z. J before (well_sorted z after)) (sym e) (subst (λ z. J before (well_sorted x z)) (sym same) h)
+made_meets (Err e) x J before between after ok err same h = subst (λ z. Meets {A = PlainTerm} (Err z) J before after) (sym err) tt
 
 pub variable_applied : (at : ℕ) (args : List PlainTerm) (asked : Option Sort) (name : ℕ) (s : Sort) (e : TyError) → ((args ≡ []) × (asked ≡ None) → ⊥) → e ≡ fault_at AppliedVariable at → Answers {A = PlainTerm} (Err e) (judge_variable at args asked name s)
 variable_applied at args asked name s e n same = subst (λ z. Answers {A = PlainTerm} (Err z) (judge_variable at args asked name s)) (sym same) (λ before. inl (n, refl))
@@ -141,37 +146,33 @@ application_moved signature new vars at byte args made asked i shown r e f g h k
     (subst (λ z. Answers r (judge_application new vars byte z asked i)) g
     (subst (λ z. Answers r (judge_application new vars byte made asked z)) h k)))
 
-pub term_moved : (old new : World) (vars : List (ℕ × Sort)) (t : syntax.Term) (r : Result PlainTerm TyError) → HasGrown old new → Answers r (judge_term (signature_of new) vars t) → Answers r (judge_term (signature_of old) vars t)
-term_moved old new vars t r g h = subst (λ z. Answers r (judge_term z vars t)) (same_signature old new g) h
-
-pub terms_moved : (old new : World) (vars : List (ℕ × Sort)) (ts : Terms) (r : Result (List PlainTerm) TyError) → HasGrown old new → Answers r (judge_terms (signature_of new) vars ts) → Answers r (judge_terms (signature_of old) vars ts)
-terms_moved old new vars ts r g h = subst (λ z. Answers r (judge_terms z vars ts)) (same_signature old new g) h
-
-pub bindings_moved : (old new : World) (vars : List (ℕ × Sort)) (others : List ℕ) (bs : Bindings) (r : Result (List Binding) TyError) → HasGrown old new → Answers r (judge_bindings (signature_of new) vars others bs)
-    → Answers r (judge_bindings (signature_of old) vars others bs)
-bindings_moved old new vars others bs r g h = subst (λ z. Answers r (judge_bindings z vars others bs)) (same_signature old new g) h
-
-pub note_moved : (old new : World) (vars : List (ℕ × Sort)) (n : Note) (r : Result PlainNote TyError) → HasGrown old new → Answers r (judge_note (signature_of new) vars n) → Answers r (judge_note (signature_of old) vars n)
-note_moved old new vars n r g h = subst (λ z. Answers r (judge_note z vars n)) (same_signature old new g) h
-
-pub notes_moved : (old new : World) (vars : List (ℕ × Sort)) (ns : Notes) (r : Result (List PlainNote) TyError) → HasGrown old new → Answers r (judge_notes (signature_of new) vars ns) → Answers r (judge_notes (signature_of old) vars ns)
-notes_moved old new vars ns r g h = subst (λ z. Answers r (judge_notes z vars ns)) (same_signature old new g) h
+-- what the rules say after a part they say before it
+pub moved : {A : Type 0} (J : Signature → Judging A) (r : Result A TyError) (old new : World) (before after : List ℕ) → HasElaborated old new → Meets r (J (signature_of new)) before after → Meets r (J (signature_of old)) before after
+moved J r old new before after g h = subst (λ z. Meets r (J z) before after) (elaborated_signature old new g) h
 
 -- the body of a binder, with the variables as the code has them
-pub body_moved : (old new : World) (vars inner : List (ℕ × Sort)) (t : syntax.Term) (r : Result PlainTerm TyError) → HasGrown old new → inner ≡ vars → Answers r (judge_term (signature_of new) inner t) → Answers r (judge_term (signature_of old) vars t)
-body_moved old new vars inner t r g e h = term_moved old new vars t r g (subst (λ z. Answers r (judge_term (signature_of new) z t)) e h)
+pub body_moved : (old new : World) (vars inner : List (ℕ × Sort)) (t : syntax.Term) (r : Result PlainTerm TyError) (before after : List ℕ) → HasElaborated old new → inner ≡ vars → Meets r (judge_term (signature_of new) inner t) before after
+    → Meets r (judge_term (signature_of old) vars t) before after
+body_moved old new vars inner t r before after g e h = moved (λ z. judge_term z vars t) r old new before after g (subst (λ z. Meets r (judge_term (signature_of new) z t) before after) e h)
 
 -- a head with its arguments
-module _ (signature : Signature) (vars : List (ℕ × Sort)) (at : ℕ) (q : Qualified) (ts : Terms) (asked : Option Sort) where
+module _ (signature : Signature) (vars : List (ℕ × Sort)) (at : ℕ) (q : Qualified) (ts : Terms) (asked : Option Sort) (before : List ℕ) (first : Answers (Ok asked) (judge_asked signature q)) where
   abbrev with_arguments : Option Sort → List PlainTerm → Judging PlainTerm
   with_arguments asked args = judge_application signature vars at args asked (identifier_of q)
 
   abbrev with_asked : Option Sort → Judging PlainTerm
   with_asked asked = judge_terms signature vars ts >>= with_arguments asked
 
-  pub applied_fails : (e : TyError) → Answers (Ok asked) (judge_asked signature q) → Answers {A = List PlainTerm} (Err e) (judge_terms signature vars ts) → Answers {A = PlainTerm} (Err e) (judge_term signature vars (syntax.application at q ts))
-  applied_fails e h k = first_is (judge_asked signature q) with_asked asked (Err e) h (first_fails (judge_terms signature vars ts) (with_arguments asked) e k)
+  pub applied_fails : (e : TyError) (after : List ℕ) → Meets {A = List PlainTerm} (Err e) (judge_terms signature vars ts) before after → Meets {A = PlainTerm} (Err e) (judge_term signature vars (syntax.application at q ts)) before after
+  applied_fails e after k = then_is (judge_asked signature q) with_asked asked (Err e) before before after (first before) (then_fails (judge_terms signature vars ts) (with_arguments asked) e before after after k)
 
-  pub applied_is : (args : List PlainTerm) (r : Result PlainTerm TyError) → Answers (Ok asked) (judge_asked signature q) → Answers (Ok args) (judge_terms signature vars ts) → Answers r (judge_application signature vars at args asked (identifier_of q))
-      → Answers r (judge_term signature vars (syntax.application at q ts))
-  applied_is args r h k l = first_is (judge_asked signature q) with_asked asked r h (first_is (judge_terms signature vars ts) (with_arguments asked) args r k l)
+  pub applied_is : (args : List PlainTerm) (r : Result PlainTerm TyError) (between after : List ℕ) → Meets (Ok args) (judge_terms signature vars ts) before between → after ≡ between → Answers r (judge_application signature vars at args asked (identifier_of q))
+      → Meets r (judge_term signature vars (syntax.application at q ts)) before after
+  applied_is args r between after k same l =
+      then_is (judge_asked signature q) with_asked asked r before before after (first before)
+      (then_is (judge_terms signature vars ts) (with_arguments asked) args r before between after k (meets r (with_arguments asked args) between after same l))
+
+pub asked_fails : (signature : Signature) (vars : List (ℕ × Sort)) (at : ℕ) (q : Qualified) (ts : Terms) (e : TyError) (before after : List ℕ) → Answers {A = Option Sort} (Err e) (judge_asked signature q)
+    → Meets {A = PlainTerm} (Err e) (judge_term signature vars (syntax.application at q ts)) before after
+asked_fails signature vars at q ts e before after h =
+    then_fails (judge_asked signature q) (λ asked. judge_terms signature vars ts >>= (λ args. judge_application signature vars at args asked (identifier_of q))) e before before after (meets (Err e) (judge_asked signature q) before before refl h)

@@ -1,29 +1,37 @@
--- Each term has exactly one outcome, and declares no name.
+-- Each term has exactly one outcome. The symbols of a term and the sorts of its variables declare no name.
 use Rattle.std.proofs.Common.{◌≡◌, ℕ, ◌≤◌, ◌==◌, Bool, true, false, not, List, [], ◌∷◌, ◌++◌, codes, map, Option, Some, None, ◌⊎◌, inl, inr, refl}
 use Rattle.std.specs.List.{list_any}
 use Rattle.std.specs.Str.{bytes_eq}
 use Rattle.lex_core.specs.declared.place.Place.{Place}
 use Rattle.lex_core.specs.declared.token.Tok.{Tok}
-use Rattle.sig_table.specs.declared.code.Code.TheVariants.{NoRank, AmbiguousConstructor, WrongQualifiedSort, WrongTermSort, SortTooLarge}
-use Rattle.judgement.specs.Judging.{Judging, Lawful, DeclaresNone, check, find, done, ◌>>=◌}
-use Rattle.judgement.proofs.JudgementLaws.{lawful-done, lawful-check, lawful-find, lawful-refuse, lawful-then, lawful-then_given, option_decided, test_decided, value_once, never_both, fault_once}
-use Rattle.judgement.proofs.NamesKept.{none-done, none-check, none-find, none-refuse, none-then}
+use Rattle.sig_table.specs.declared.code.Code.TheVariants.{NoRank, AmbiguousConstructor, WrongNamedTerm, WrongQualifiedSort, WrongTermSort, SortTooLarge}
+use Rattle.judgement.specs.Judging.{Judging, Lawful, DeclaresNone, check, declare, done, find, names, ◌>>=◌}
+use Rattle.judgement.proofs.JudgementLaws.{lawful-done, lawful-check, lawful-declare, lawful-find, lawful-names, lawful-refuse, lawful-then, lawful-then_given, option_decided, test_decided, value_once, value_or_fault, never_both, fault_once}
+use Rattle.judgement.proofs.NamesKept.{none-done, none-check, none-find, none-then}
 use Rattle.term_grammar.specs.Syntax.{Identifier, symbol, indexed, Qualified, unqualified, qualified, qualified_at, SortedSymbol, Term, constant, qualified_term, application, let_in, for_all, there_exists, match_with, annotated, term_at, Terms, no_terms, with_term, Bindings, no_bindings, with_binding, Notes, no_notes, with_note, Note, named_note, pattern_note, attribute_note}
 use Rattle.term_grammar.specs.Syntax as syntax
 use Rattle.sort_store.specs.CoreRanks.{bool}
 use Rattle.sort_store.specs.Tree.{Sort, node_count}
 use Rattle.theory_core.proofs.SortsDecided.{sort_decided}
 use Rattle.term_store.specs.Term.{PlainTerm, plain_sort}
-use Rattle.typer.specs.FunctionSymbols.{Signature, Function, theory, declared, function_of, indexed_function, text_of, HasRank, is_ambiguous}
+use Rattle.term_store.specs.Term as typed
+use Rattle.typer.specs.FunctionSymbols.{Signature, Function, theory, declared, function_of, indexed_function, text_of, HasRank, is_ambiguous, is_fun_in_use}
+use Rattle.typer.specs.FreeVariables.{has_free, is_one_of}
 use Rattle.typer.specs.RankRules.{judge_rank}
 use Rattle.typer.specs.SortRules.{only_numeral}
-use Rattle.typer.specs.TermRules.{literal_sort, bound, bound_sort, quantified, judge_binding, judge_bindings, judge_quantifier, judge_sorted, judge_variables, judge_note, judge_notes, judge_function, judge_head, judge_indexed_head, judge_symbol, judge_application, judge_asked, identifier_of, judge_literal, judge_term, judge_terms, Elaborates, TermFault}
+use Rattle.typer.specs.TermRules.{MayBeNamed, PlainNote, literal_sort, number_after, bound, bound_sort, quantified, judge_binding, judge_bindings, judge_quantifier, judge_sorted, judge_variables, judge_name, judge_note, judge_notes, judge_function, judge_head, judge_indexed_head, judge_symbol, judge_application, judge_asked, identifier_of, judge_literal, judge_term, judge_terms, Elaborates, TermFault}
 use Rattle.typer.proofs.RankDecisions.{theory_rank_decided, theory_result_decided, theory_result_once, instance_decided, instance_result_decided, instance_result_once}
-use Rattle.typer.proofs.SortLaws.{at_most, decided_of, lawful-sort, none-sort}
+use Rattle.typer.proofs.SortLaws.{at_most, lawful-sort, none-sort}
 
 is_false : (b : Bool) → (b ≡ false) ⊎ (b ≡ false → ⊥)
 is_false true = inr (λ e. cc)
 is_false false = inl refl
+
+all_false : (a b c : Bool) → ((a ≡ false) × (b ≡ false) × (c ≡ false)) ⊎ ((a ≡ false) × (b ≡ false) × (c ≡ false) → ⊥)
+all_false true b c = inr (λ h. (let e = h.0 in cc))
+all_false false true c = inr (λ h. (let e = h.1 in cc))
+all_false false false true = inr (λ h. (let e = h.2 in cc))
+all_false false false false = inl (refl, refl, refl)
 
 -- the rule on ranks, where it is decided which result sorts there are
 module _ (rank : Sort → Type 0) (some : ((s : Sort) × rank s) ⊎ (((s : Sort) × rank s) → ⊥)) (each : (s : Sort) → rank s ⊎ (rank s → ⊥)) (at : ℕ) where
@@ -95,12 +103,12 @@ module _ (signature : Signature) (vars : List (ℕ × Sort)) where
   none-symbol (Some s) at args asked name = none-then _ _ (none-check _ _ _) (λ _. none-done _)
   none-symbol None at args asked name = none-then _ _ (none-then _ _ (none-find _ _ _) (λ f. none-function f at (map plain_sort args) asked name [])) (λ h. none-done _)
 
-  none-application : (i : Identifier) (at : ℕ) (args : List PlainTerm) (asked : Option Sort) → DeclaresNone (judge_application signature vars at args asked i)
+  pub none-application : (i : Identifier) (at : ℕ) (args : List PlainTerm) (asked : Option Sort) → DeclaresNone (judge_application signature vars at args asked i)
   none-application (symbol t) at args asked = none-symbol (bound vars t.name) at args asked t.name
   none-application (indexed _ t is) at args asked =
       none-then _ _ (none-then _ _ (none-find _ _ _) (λ f. none-then _ _ (none-find _ _ _) (λ i. none-then _ _ (none-check _ _ _) (λ _. none-function f at (map plain_sort args) asked t.name (i.name ∷ []))))) (λ h. none-done _)
 
-  none-asked : (q : Qualified) → DeclaresNone (judge_asked signature q)
+  pub none-asked : (q : Qualified) → DeclaresNone (judge_asked signature q)
   none-asked (unqualified i) = none-done _
   none-asked (qualified _ i s) = none-then _ _ (none-sort signature.texts signature.declarations signature.theories [] s) (λ t. none-done _)
 
@@ -111,12 +119,6 @@ lawful-binding repeated x value h = lawful-then _ _ (lawful-check _ _ _ (is_fals
 lawful-quantifier : (all : Bool) (at : ℕ) (variables : Judging (List (ℕ × Sort))) (body : List (ℕ × Sort) → Judging PlainTerm) → Lawful variables → ((vs : List (ℕ × Sort)) → Lawful (body vs)) → Lawful (judge_quantifier all at variables body)
 lawful-quantifier all at variables body h k =
     lawful-then _ _ h (λ vs. lawful-then _ _ (k vs) (λ u. lawful-then (check (plain_sort u ≡ bool) WrongTermSort at) (λ _. done (quantified all vs u)) (lawful-check _ _ _ (sort_decided (plain_sort u) bool)) (λ _. lawful-done _)))
-
-none-binding : (repeated : Bool) (x : Tok) (value : Judging PlainTerm) → DeclaresNone value → DeclaresNone (judge_binding repeated x value)
-none-binding repeated x value h = none-then _ _ (none-check _ _ _) (λ _. none-then _ _ h (λ u. none-done _))
-
-none-quantifier : (all : Bool) (at : ℕ) (variables : Judging (List (ℕ × Sort))) (body : List (ℕ × Sort) → Judging PlainTerm) → DeclaresNone variables → ((vs : List (ℕ × Sort)) → DeclaresNone (body vs)) → DeclaresNone (judge_quantifier all at variables body)
-none-quantifier all at variables body h k = none-then _ _ h (λ vs. none-then _ _ (k vs) (λ u. none-then (check (plain_sort u ≡ bool) WrongTermSort at) (λ _. done (quantified all vs u)) (none-check _ _ _) (λ _. none-done _)))
 
 module _ (signature : Signature) where
   lawful-sorted : (name : ℕ) (raw : syntax.Sort) → Lawful (judge_sorted signature name raw)
@@ -129,9 +131,18 @@ module _ (signature : Signature) where
   none-sorted : (name : ℕ) (raw : syntax.Sort) → DeclaresNone (judge_sorted signature name raw)
   none-sorted name raw = none-then _ _ (none-sort signature.texts signature.declarations signature.theories [] raw) (λ s. none-done _)
 
-  none-variables : (vs : List SortedSymbol) → DeclaresNone (judge_variables signature vs)
+  pub none-variables : (vs : List SortedSymbol) → DeclaresNone (judge_variables signature vs)
   none-variables [] = none-done _
   none-variables (v ∷ vs) = none-then _ _ (none-sorted v.name.name v.sort) (λ w. none-then _ _ (none-variables vs) (λ ws. none-done _))
+
+  abbrev with_name : PlainTerm → Tok → List ℕ → Judging PlainNote
+  with_name u t seen = declare t.name >>= (λ _. done (typed.named (number_after signature seen) t.name))
+
+  lawful-name : (u : PlainTerm) (t : Tok) → Lawful (judge_name signature u t)
+  lawful-name u t =
+      lawful-then names (λ seen. check (MayBeNamed signature seen u t.name) WrongNamedTerm t.at >>= (λ _. with_name u t seen)) lawful-names
+      (λ seen. lawful-then (check (MayBeNamed signature seen u t.name) WrongNamedTerm t.at) (λ _. with_name u t seen)
+      (lawful-check _ _ _ (all_false (has_free [] u) (is_fun_in_use signature t.name) (is_one_of seen t.name))) (λ _. lawful-then _ _ (lawful-declare t.name) (λ _. lawful-done _)))
 
   mutual
     pub lawful-term : (t : Term) (vars : List (ℕ × Sort)) → Lawful (judge_term signature vars t)
@@ -142,7 +153,7 @@ module _ (signature : Signature) where
     lawful-term (for_all at vs u) vars = lawful-quantifier true (term_at u) (judge_variables signature vs) (λ ws. judge_term signature (vars ++ ws) u) (lawful-variables vs) (λ ws. lawful-term u (vars ++ ws))
     lawful-term (there_exists at vs u) vars = lawful-quantifier false (term_at u) (judge_variables signature vs) (λ ws. judge_term signature (vars ++ ws) u) (lawful-variables vs) (λ ws. lawful-term u (vars ++ ws))
     lawful-term (match_with at u cs) vars = lawful-refuse _ _
-    lawful-term (annotated at u ns) vars = lawful-then _ _ (lawful-term u vars) (λ v. lawful-then _ _ (lawful-notes ns vars) (λ ms. lawful-done _))
+    lawful-term (annotated at u ns) vars = lawful-then _ _ (lawful-term u vars) (λ v. lawful-then _ _ (lawful-notes ns vars v) (λ ms. lawful-done _))
 
     pub lawful-terms : (ts : Terms) (vars : List (ℕ × Sort)) → Lawful (judge_terms signature vars ts)
     lawful-terms no_terms vars = lawful-done _
@@ -152,53 +163,25 @@ module _ (signature : Signature) where
     lawful-bindings no_bindings vars others = lawful-done _
     lawful-bindings (with_binding at x t bs) vars others = lawful-then _ _ (lawful-binding (list_any (λ n. n == x.name) others) x (judge_term signature vars t) (lawful-term t vars)) (λ c. lawful-then _ _ (lawful-bindings bs vars (others ++ x.name ∷ [])) (λ cs. lawful-done _))
 
-    lawful-notes : (ns : Notes) (vars : List (ℕ × Sort)) → Lawful (judge_notes signature vars ns)
-    lawful-notes no_notes vars = lawful-done _
-    lawful-notes (with_note n ns) vars = lawful-then _ _ (lawful-note n vars) (λ m. lawful-then _ _ (lawful-notes ns vars) (λ ms. lawful-done _))
+    lawful-notes : (ns : Notes) (vars : List (ℕ × Sort)) (u : PlainTerm) → Lawful (judge_notes signature vars u ns)
+    lawful-notes no_notes vars u = lawful-done _
+    lawful-notes (with_note n ns) vars u = lawful-then _ _ (lawful-note n vars u) (λ m. lawful-then _ _ (lawful-notes ns vars u) (λ ms. lawful-done _))
 
-    lawful-note : (n : Note) (vars : List (ℕ × Sort)) → Lawful (judge_note signature vars n)
-    lawful-note (named_note t) vars = lawful-refuse _ _
-    lawful-note (pattern_note ts) vars = lawful-then _ _ (lawful-terms ts vars) (λ us. lawful-done _)
-    lawful-note (attribute_note a) vars = lawful-done _
+    lawful-note : (n : Note) (vars : List (ℕ × Sort)) (u : PlainTerm) → Lawful (judge_note signature vars u n)
+    lawful-note (named_note t) vars u = lawful-name u t
+    lawful-note (pattern_note ts) vars u = lawful-then _ _ (lawful-terms ts vars) (λ us. lawful-done _)
+    lawful-note (attribute_note a) vars u = lawful-done _
 
-  mutual
-    pub none-term : (t : Term) (vars : List (ℕ × Sort)) → DeclaresNone (judge_term signature vars t)
-    none-term (constant t) vars = none-then _ _ (none-find _ _ _) (λ s. none-done _)
-    none-term (qualified_term q) vars = none-then _ _ (none-asked signature vars q) (λ asked. none-application signature vars (identifier_of q) (qualified_at q) [] asked)
-    none-term (application at q ts) vars = none-then _ _ (none-asked signature vars q) (λ asked. none-then _ _ (none-terms ts vars) (λ args. none-application signature vars (identifier_of q) at args asked))
-    none-term (let_in at bs u) vars = none-then _ _ (none-bindings bs vars []) (λ cs. none-then _ _ (none-term u (vars ++ map bound_sort cs)) (λ v. none-done _))
-    none-term (for_all at vs u) vars = none-quantifier true (term_at u) (judge_variables signature vs) (λ ws. judge_term signature (vars ++ ws) u) (none-variables vs) (λ ws. none-term u (vars ++ ws))
-    none-term (there_exists at vs u) vars = none-quantifier false (term_at u) (judge_variables signature vs) (λ ws. judge_term signature (vars ++ ws) u) (none-variables vs) (λ ws. none-term u (vars ++ ws))
-    none-term (match_with at u cs) vars = none-refuse _ _
-    none-term (annotated at u ns) vars = none-then _ _ (none-term u vars) (λ v. none-then _ _ (none-notes ns vars) (λ ms. none-done _))
-
-    none-terms : (ts : Terms) (vars : List (ℕ × Sort)) → DeclaresNone (judge_terms signature vars ts)
-    none-terms no_terms vars = none-done _
-    none-terms (with_term t ts) vars = none-then _ _ (none-term t vars) (λ u. none-then _ _ (none-terms ts vars) (λ us. none-done _))
-
-    none-bindings : (bs : Bindings) (vars : List (ℕ × Sort)) (others : List ℕ) → DeclaresNone (judge_bindings signature vars others bs)
-    none-bindings no_bindings vars others = none-done _
-    none-bindings (with_binding at x t bs) vars others = none-then _ _ (none-binding (list_any (λ n. n == x.name) others) x (judge_term signature vars t) (none-term t vars)) (λ c. none-then _ _ (none-bindings bs vars (others ++ x.name ∷ [])) (λ cs. none-done _))
-
-    none-notes : (ns : Notes) (vars : List (ℕ × Sort)) → DeclaresNone (judge_notes signature vars ns)
-    none-notes no_notes vars = none-done _
-    none-notes (with_note n ns) vars = none-then _ _ (none-note n vars) (λ m. none-then _ _ (none-notes ns vars) (λ ms. none-done _))
-
-    none-note : (n : Note) (vars : List (ℕ × Sort)) → DeclaresNone (judge_note signature vars n)
-    none-note (named_note t) vars = none-refuse _ _
-    none-note (pattern_note ts) vars = none-then _ _ (none-terms ts vars) (λ us. none-done _)
-    none-note (attribute_note a) vars = none-done _
-
-module _ (signature : Signature) (vars : List (ℕ × Sort)) where
+module _ (signature : Signature) (vars : List (ℕ × Sort)) (before : List ℕ) where
   -- the laws of the two readings
-  pub elaborated_once : (t : Term) (u v : PlainTerm) → Elaborates signature vars t u → Elaborates signature vars t v → u ≡ v
-  elaborated_once t u v h k = (value_once _ (lawful-term signature t vars) [] u v [] [] (h []) (k [])).0
+  pub elaborated_once : (t : Term) (u v : PlainTerm) (after later : List ℕ) → Elaborates signature vars before t u after → Elaborates signature vars before t v later → (u ≡ v) × (after ≡ later)
+  elaborated_once t u v after later h k = value_once _ (lawful-term signature t vars) before u v after later h k
 
-  pub term_or_fault : (t : Term) (u : PlainTerm) (place : Place) → Elaborates signature vars t u → TermFault signature vars t place → ⊥
-  term_or_fault t u place h k = never_both _ (lawful-term signature t vars) [] u [] place (h []) (k [])
+  pub term_or_fault : (t : Term) (u : PlainTerm) (after : List ℕ) (place : Place) → Elaborates signature vars before t u after → TermFault signature vars before t place → ⊥
+  term_or_fault t u after place h k = never_both _ (lawful-term signature t vars) before u after place h k
 
-  pub fault_of_term_once : (t : Term) (p q : Place) → TermFault signature vars t p → TermFault signature vars t q → p ≡ q
-  fault_of_term_once t p q h k = fault_once _ (lawful-term signature t vars) [] p q (h []) (k [])
+  pub fault_of_term_once : (t : Term) (p q : Place) → TermFault signature vars before t p → TermFault signature vars before t q → p ≡ q
+  fault_of_term_once t p q h k = fault_once _ (lawful-term signature t vars) before p q h k
 
-  pub term_decided : (t : Term) → ((u : PlainTerm) × Elaborates signature vars t u) ⊎ ((place : Place) × TermFault signature vars t place)
-  term_decided t = decided_of _ (lawful-term signature t vars) (none-term signature t vars)
+  pub term_decided : (t : Term) → ((u : PlainTerm) × (after : List ℕ) × Elaborates signature vars before t u after) ⊎ ((place : Place) × TermFault signature vars before t place)
+  term_decided t = value_or_fault _ (lawful-term signature t vars) before

@@ -5,9 +5,10 @@ use Rattle.term_grammar.specs.Syntax.{Term, application, let_in, for_all, there_
 use Rattle.term_grammar.specs.declared.binder.RawBinding.{RawBinding}
 use Rattle.term_grammar.specs.TermViews.{SplitsTerms, SplitsBindings, SplitsNotes}
 use Rattle.sort_store.specs.Tree.{Sort}
+use Rattle.term_store.specs.Term.{PlainTerm}
 use Rattle.typer.specs.declared.error.TyError.{TyError}
 use Rattle.typer.specs.declared.error.TyError.TheVariants as error
-use Rattle.typer.specs.Answers.{Answers}
+use Rattle.typer.specs.Answers.{Answers, Meets}
 use Rattle.typer.specs.FunctionSymbols.{Signature}
 use Rattle.typer.specs.TermRules.{judge_bindings, judge_note, judge_notes, judge_term, judge_terms}
 use Rattle.typer.proofs.ListSteps.{Joins}
@@ -63,6 +64,26 @@ pub first_fails : {A B : Type 0} (J : Judging A) (K : A → Judging B) (e : TyEr
 first_fails J K (error.Fault place) h = λ before. inl (h before)
 first_fails J K error.NoMemory h = tt
 
+-- .. where the parts may declare names
+pub then_is : {A B : Type 0} (J : Judging A) (K : A → Judging B) (x : A) (r : Result B TyError) (before between after : List ℕ) → Meets (Ok x) J before between → Meets r (K x) between after → Meets r (J >>= K) before after
+then_is J K x (Ok y) before between after h k = (x, between, h, k)
+then_is J K x (Err (error.Fault place)) before between after h k = inr (x, between, h, k)
+then_is J K x (Err error.NoMemory) before between after h k = tt
+
+pub then_fails : {A B : Type 0} (J : Judging A) (K : A → Judging B) (e : TyError) (before between after : List ℕ) → Meets {A = A} (Err e) J before between → Meets {A = B} (Err e) (J >>= K) before after
+then_fails J K (error.Fault place) before between after h = inl h
+then_fails J K error.NoMemory before between after h = tt
+
+-- what declares no name, by either reading
+pub meets : {A : Type 0} (r : Result A TyError) (J : Judging A) (before after : List ℕ) → after ≡ before → Answers r J → Meets r J before after
+meets (Ok x) J before after e h = subst (λ z. J before (well_sorted x z)) (sym e) (h before)
+meets (Err (error.Fault place)) J before after e h = h before
+meets (Err error.NoMemory) J before after e h = tt
+
+pub fault_answers : {A : Type 0} (e : TyError) (J : Judging A) → ((before : List ℕ) → Meets {A = A} (Err e) J before before) → Answers {A = A} (Err e) J
+fault_answers (error.Fault place) J h = h
+fault_answers error.NoMemory J h = tt
+
 pub left_is : (ts : Terms) (next : Option (Term × Terms)) → SplitsTerms ts next → left next ≡ ts
 left_is ts None e = sym e
 left_is ts (Some p) e = sym e
@@ -81,12 +102,12 @@ module _ (signature : Signature) (vars : List (ℕ × Sort)) where
   joins_terms t rest before (well_sorted us after) h = h
   joins_terms t rest before (ill_sorted place) h = h
 
-  pub joins_notes : Joins with_note (judge_note signature vars) (judge_notes signature vars)
-  joins_notes n rest before (well_sorted ms after) h = h
-  joins_notes n rest before (ill_sorted place) h = h
+  pub joins_notes : (u : PlainTerm) → Joins with_note (judge_note signature vars u) (judge_notes signature vars u)
+  joins_notes u n rest before (well_sorted ms after) h = h
+  joins_notes u n rest before (ill_sorted place) h = h
 
-  pub no_notes_left : (ns : Notes) → ns ≡ no_notes → (before : List ℕ) → judge_notes signature vars ns before (well_sorted [] before)
-  no_notes_left ns e before = subst (λ z. judge_notes signature vars z before (well_sorted [] before)) (sym e) (refl, refl)
+  pub no_notes_left : (u : PlainTerm) (ns : Notes) → ns ≡ no_notes → (before : List ℕ) → judge_notes signature vars u ns before (well_sorted [] before)
+  no_notes_left u ns e before = subst (λ z. judge_notes signature vars u z before (well_sorted [] before)) (sym e) (refl, refl)
 
   pub no_bindings_left : (others : List ℕ) (bs : Bindings) → bs ≡ no_bindings → (before : List ℕ) → judge_bindings signature vars others bs before (well_sorted [] before)
   no_bindings_left others bs e before = subst (λ z. judge_bindings signature vars others z before (well_sorted [] before)) (sym e) (refl, refl)

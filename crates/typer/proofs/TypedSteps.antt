@@ -1,7 +1,10 @@
 -- What is true of typed terms stays true as the world's stores grow.
 use Rattle.std.proofs.Common.{◌≡◌, ℕ, List, [], ◌∷◌, ◌++◌, map, Option, Some, None, refl, ap, sym, ◌∙◌, subst}
+use Rattle.std.specs.Global.{Global}
 use Rattle.std.specs.Option.{IfSome}
+use Rattle.std.specs.Prelude.{Vec}
 use Rattle.std.proofs.lemmas.List.{map-append}
+use Rattle.sort_store.specs.declared.head.DeclNo.{DeclNo}
 use Rattle.sort_store.specs.Tree.{Sort, NumberedSort}
 use Rattle.sort_store.specs.Tree as sort_tree
 use Rattle.sort_store.specs.Interned as sorts
@@ -16,9 +19,9 @@ use Rattle.typer.specs.declared.typed.TypedBinding.{TypedBinding}
 use Rattle.typer.specs.declared.typed.TypedTerm.{TypedTerm}
 use Rattle.typer.specs.declared.typed.TypedTerms.{TypedTerms}
 use Rattle.typer.specs.declared.world.World.{World}
-use Rattle.typer.specs.FunctionSymbols.{signature_of}
+use Rattle.typer.specs.FunctionSymbols.{Signature, first_number, signature_of}
 use Rattle.typer.specs.Ready.{IsReady}
-use Rattle.typer.specs.Typed.{AreBound, AreTyped, AreTypedBindings, HasGrown, IsTyped, bound_variable}
+use Rattle.typer.specs.Typed.{AreBound, AreTyped, AreTypedBindings, HasElaborated, HasGrown, IsTyped, bound_variable}
 use Rattle.typer.proofs.ReadyKept.{ready_kept}
 
 abbrev with_stores : List Sort → List PlainTerm → World → World
@@ -45,40 +48,97 @@ grown_sorts old new g e = record {
 pub grown_terms : (old : World) (made : List PlainTerm) → terms.Grows old.terms made → HasGrown old (record old { terms = made })
 grown_terms old made g = record { sorts = sort_stores.grows_none old.sorts; terms = g; others = refl }
 
+-- .. also so far as names are declared
+abbrev with_names : List Sort → List PlainTerm → Vec ℕ Global → DeclNo → World → World
+with_names s t seen next world = record world { sorts = s; terms = t; seen = seen; next = next }
+
+pub elaborated_grown : (old new : World) → HasGrown old new → HasElaborated old new
+elaborated_grown old new h = record {
+  sorts = h.sorts;
+  terms = h.terms;
+  first = ap first_number h.others;
+  others = h.others ∙ ap (λ seen. with_names new.sorts new.terms seen old.next old) (ap (λ (w : World). w.seen) (sym h.others)) ∙ ap (λ next. with_names new.sorts new.terms new.seen next old) (ap (λ (w : World). w.next) (sym h.others));
+}
+
+pub elaborated_none : (world : World) → HasElaborated world world
+elaborated_none world = elaborated_grown world world (grown_none world)
+
+pub elaborated_more : (a b c : World) → HasElaborated a b → HasElaborated b c → HasElaborated a c
+elaborated_more a b c h k = record {
+  sorts = sort_stores.grows_more a.sorts b.sorts c.sorts h.sorts k.sorts;
+  terms = term_stores.grows_more a.terms b.terms c.terms h.terms k.terms;
+  first = k.first ∙ h.first;
+  others = k.others ∙ ap (with_names c.sorts c.terms c.seen c.next) h.others;
+}
+
+pub elaborated_named : (old new : World) → first_number new ≡ first_number old → new ≡ record old { seen = new.seen; next = new.next } → HasElaborated old new
+elaborated_named old new same e = record {
+  sorts = subst (sorts.Grows old.sorts) (ap (λ (w : World). w.sorts) (sym e)) (sort_stores.grows_none old.sorts);
+  terms = subst (terms.Grows old.terms) (ap (λ (w : World). w.terms) (sym e)) (term_stores.grows_none old.terms);
+  first = same;
+  others = e ∙ ap (λ s. with_names s old.terms new.seen new.next old) (ap (λ (w : World). w.sorts) (sym e)) ∙ ap (λ t. with_names new.sorts t new.seen new.next old) (ap (λ (w : World). w.terms) (sym e));
+}
+
 -- what does not change
 pub same_signature : (old new : World) → HasGrown old new → signature_of new ≡ signature_of old
 same_signature old new h = ap signature_of h.others
 
+pub same_seen : (old new : World) → HasGrown old new → new.seen.items ≡ old.seen.items
+same_seen old new h = ap (λ (w : World). w.seen.items) h.others
+
+abbrev with_first : ℕ → Signature → Signature
+with_first first signature = record signature { first = first }
+
+pub elaborated_signature : (old new : World) → HasElaborated old new → signature_of new ≡ signature_of old
+elaborated_signature old new h = ap (λ w. with_first (first_number new) (signature_of w)) h.others ∙ ap (λ n. with_first n (signature_of old)) h.first
+
 pub ready_with_terms : (old : World) (made : List PlainTerm) → IsReady old → IsReady (record old { terms = made })
-ready_with_terms old made ready = record { distinct = ready.distinct; sorts = ready.sorts; funs = ready.funs }
+ready_with_terms old made ready = record { distinct = ready.distinct; sorts = ready.sorts; funs = ready.funs; numbered = ready.numbered }
 
-module _ (old new : World) (grown : HasGrown old new) where
-  pub sort_grown : (r : NumberedSort) → sorts.IsInterned old.sorts r → sorts.IsInterned new.sorts r
-  sort_grown r h = sort_stores.interned_grown old.sorts new.sorts r grown.sorts h
+module _ (old new : World) (elaborated : HasElaborated old new) where
+  pub sort_kept : (r : NumberedSort) → sorts.IsInterned old.sorts r → sorts.IsInterned new.sorts r
+  sort_kept r h = sort_stores.interned_grown old.sorts new.sorts r elaborated.sorts h
 
-  pub asked_grown : (o : Option NumberedSort) → IfSome o (sorts.IsInterned old.sorts) → IfSome o (sorts.IsInterned new.sorts)
-  asked_grown (Some r) h = sort_grown r h
-  asked_grown None h = h
+  pub asked_kept : (o : Option NumberedSort) → IfSome o (sorts.IsInterned old.sorts) → IfSome o (sorts.IsInterned new.sorts)
+  asked_kept (Some r) h = sort_kept r h
+  asked_kept None h = h
 
-  pub bound_grown : (vars : List (ℕ × NumberedSort)) → AreBound old vars → AreBound new vars
-  bound_grown vars h = sort_stores.all_interned_grown old.sorts new.sorts (map (λ v. v.1) vars) grown.sorts h
+  pub bound_kept : (vars : List (ℕ × NumberedSort)) → AreBound old vars → AreBound new vars
+  bound_kept vars h = sort_stores.all_interned_grown old.sorts new.sorts (map (λ v. v.1) vars) elaborated.sorts h
 
-  pub typed_grown : (t : TypedTerm) → IsTyped old t → IsTyped new t
-  typed_grown t h = record { term = term_stores.interned_grown old.terms new.terms t.term grown.terms h.term; sort = sort_grown t.sort h.sort; same = h.same }
+  pub typed_kept : (t : TypedTerm) → IsTyped old t → IsTyped new t
+  typed_kept t h = record { term = term_stores.interned_grown old.terms new.terms t.term elaborated.terms h.term; sort = sort_kept t.sort h.sort; same = h.same }
 
-  pub all_typed_grown : (ts : TypedTerms) → AreTyped old ts → AreTyped new ts
-  all_typed_grown ts h = record {
-    terms = term_stores.all_interned_grown old.terms new.terms ts.terms.items grown.terms h.terms;
-    sorts = sort_stores.all_interned_grown old.sorts new.sorts ts.sorts.items grown.sorts h.sorts;
+  pub all_typed_kept : (ts : TypedTerms) → AreTyped old ts → AreTyped new ts
+  all_typed_kept ts h = record {
+    terms = term_stores.all_interned_grown old.terms new.terms ts.terms.items elaborated.terms h.terms;
+    sorts = sort_stores.all_interned_grown old.sorts new.sorts ts.sorts.items elaborated.sorts h.sorts;
     same = h.same;
   }
 
-  pub bindings_grown : (bs : List TypedBinding) → AreTypedBindings old bs → AreTypedBindings new bs
-  bindings_grown [] h = tt
-  bindings_grown (b ∷ bs) h = (typed_grown b.value h.0, bindings_grown bs h.1)
+  pub bindings_kept : (bs : List TypedBinding) → AreTypedBindings old bs → AreTypedBindings new bs
+  bindings_kept [] h = tt
+  bindings_kept (b ∷ bs) h = (typed_kept b.value h.0, bindings_kept bs h.1)
 
-  pub notes_grown : (ns : Notes ℕ NumberedSort) → terms.AreNotesInterned old.terms ns → terms.AreNotesInterned new.terms ns
-  notes_grown ns h = subst (λ z. terms.AreNotesInterned z ns) (sym grown.terms.1) (term_stores.notes_interned_append old.terms grown.terms.0 ns h)
+  pub notes_kept : (ns : Notes ℕ NumberedSort) → terms.AreNotesInterned old.terms ns → terms.AreNotesInterned new.terms ns
+  notes_kept ns h = subst (λ z. terms.AreNotesInterned z ns) (sym elaborated.terms.1) (term_stores.notes_interned_append old.terms elaborated.terms.0 ns h)
+
+-- .. where no name is declared
+module _ (old new : World) (grown : HasGrown old new) where
+  pub sort_grown : (r : NumberedSort) → sorts.IsInterned old.sorts r → sorts.IsInterned new.sorts r
+  sort_grown r h = sort_kept old new (elaborated_grown old new grown) r h
+
+  pub asked_grown : (o : Option NumberedSort) → IfSome o (sorts.IsInterned old.sorts) → IfSome o (sorts.IsInterned new.sorts)
+  asked_grown o h = asked_kept old new (elaborated_grown old new grown) o h
+
+  pub bound_grown : (vars : List (ℕ × NumberedSort)) → AreBound old vars → AreBound new vars
+  bound_grown vars h = bound_kept old new (elaborated_grown old new grown) vars h
+
+  pub typed_grown : (t : TypedTerm) → IsTyped old t → IsTyped new t
+  typed_grown t h = typed_kept old new (elaborated_grown old new grown) t h
+
+  pub all_typed_grown : (ts : TypedTerms) → AreTyped old ts → AreTyped new ts
+  all_typed_grown ts h = all_typed_kept old new (elaborated_grown old new grown) ts h
 
 -- one more binding or attribute
 pub bindings_push : (world : World) (bs : List TypedBinding) (b : TypedBinding) → AreTypedBindings world bs → IsTyped world b.value → AreTypedBindings world (bs ++ b ∷ [])
@@ -127,3 +187,5 @@ pub made_sort : (t : NumberedTerm) (s : NumberedSort) (x : TermNode) → tree t 
 made_sort t s x e = sym (ap plain_sort e)
 
 pub ruleset typed_words = (grown_none, grown_more, grown_sorts, sort_grown, asked_grown, bound_grown, typed_grown, all_typed_grown, none_typed, ready_kept)
+
+pub ruleset term_words = (elaborated_none, elaborated_more, elaborated_grown, sort_kept, bound_kept, none_typed)

@@ -27,6 +27,13 @@ Answers (Ok x) J = (before : List ℕ) → J before (well_sorted x before)
 Answers (Err (error.Fault place)) J = (before : List ℕ) → J before (ill_sorted place)
 Answers (Err error.NoMemory) J = ⊤
 
+-- The same of a thing that may declare names: Ok has the value after these names that the command has declared, with those that
+-- it has declared then; a fault comes after the names before.
+abbrev pub Meets : {A : Type 0} → Result A TyError → Judging A → List ℕ → List ℕ → Type 0
+Meets (Ok x) J before after = J before (well_sorted x after)
+Meets (Err (error.Fault place)) J before after = J before (ill_sorted place)
+Meets (Err error.NoMemory) J before after = ⊤
+
 -- the trees of the sorts of an answer
 abbrev pub tree_answer : Result NumberedSort TyError → Result Sort TyError
 tree_answer (Ok r) = Ok (tree r)

@@ -1,5 +1,5 @@
 -- What the function symbol of a term stands for, and the ranks that it has (SMT-LIB 2.6, section 3.6).
-use Rattle.std.specs.Prelude.{ℕ, Bool, false, ◌||◌, if◌then◌else◌, List, [], ◌++◌, slice_index_or, Option, Some, None, option_map}
+use Rattle.std.specs.Prelude.{ℕ, ◌-◌, Bool, false, ◌||◌, if◌then◌else◌, List, [], ◌++◌, length, slice_index_or, Option, Some, None, option_map}
 use Rattle.std.specs.Option.{is_some}
 use Rattle.sig_table.specs.declared.theories.Theories.{Theories}
 use Rattle.sig_table.specs.declared.theories.NameForm.{NameForm}
@@ -19,20 +19,26 @@ use Rattle.typer.specs.LiveRanks as live
 use Rattle.typer.specs.RankRules.{judge_rank}
 use Rattle.typer.specs.SortSymbols.{or_else, is_theory_sort}
 
--- what the symbols of a term are looked up in: the texts of the names, the live declarations and the theories of the logic
+-- What the symbols of a term are looked up in: the texts of the names, the live declarations and the theories of the logic; and
+-- the number of the first name that the command declares.
 pub record Signature : Type 0 where
   pub texts : List (List ℕ)
   pub declarations : Declarations
   pub theories : Theories
+  pub first : ℕ
 
 -- a function symbol of Core or of a theory of the logic, by its text, or a live one
 pub data Function : Type 0 where
   theory : List ℕ → Function
   declared : FunDeclaration → Function
 
--- that of a world
+-- the number of the first name that a world's command declares
+abbrev pub first_number : World → ℕ
+first_number world = world.next.0 - length world.seen.items
+
+-- the signature of a world
 abbrev pub signature_of : World → Signature
-signature_of world = record { texts = world.names; declarations = declarations_of world.scopes; theories = world.theories }
+signature_of world = record { texts = world.names; declarations = declarations_of world.scopes; theories = world.theories; first = first_number world }
 
 abbrev pub text_of : Signature → ℕ → List ℕ
 text_of signature name = slice_index_or signature.texts name []

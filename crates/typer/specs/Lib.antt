@@ -9,5 +9,6 @@ pub mod LiveRanks
 pub mod FunctionSymbols
 pub mod TermRules
 pub mod FreeVariables
+pub mod NamedTerms
 pub mod Typed
 pub mod Soundness

@@ -50,9 +50,8 @@ pub record AllInternedTogether (a b : List NumberedSort) : Type 0 where
   pub first : AllInterned store a
   pub second : AllInterned store b
 
--- the sorts of the declaration are interned in the store, and have no parameter past the number that it gives
+-- the sorts of the declaration are interned in the store, and where it has parameters, have none past their number
 pub record IsReadyEntry (store : List Sort) (f : FunEntry) : Type 0 where
   pub args : AllInterned store f.args
   pub result : IsInterned store f.result
-  pub args_below : EachParamsBelow f.params (trees (nodes f.args))
-  pub result_below : ParamsBelow f.params (tree f.result)
+  pub below : (f.params ≡ 0 → ⊥) → EachParamsBelow f.params (trees (nodes f.args)) × ParamsBelow f.params (tree f.result)

@@ -1,6 +1,7 @@
--- What a world keeps: its table has the names of the live declarations and of the sorts that stand in them, its store has
--- these sorts, each once, and they have no parameter past the number that the declaration gives.
-use Rattle.std.specs.Prelude.{◌≡◌, ℕ, ◌<◌, Bool, true, false, List, length, ⊤}
+-- What a world keeps: its table has the names of the live sort symbols and of the sorts that they stand for, its store has the
+-- sorts of all live declarations, each once, and they have no parameter past the number that the declaration gives; and the
+-- names that the command has declared have numbers below the next one.
+use Rattle.std.specs.Prelude.{◌≡◌, ℕ, ◌<◌, ◌≤◌, Bool, true, false, List, length, ⊤}
 use Rattle.std.specs.List.{All}
 use Rattle.sig_table.specs.declared.theories.Theories.{Theories}
 use Rattle.sort_store.specs.declared.head.Head.{Head}
@@ -14,6 +15,7 @@ use Rattle.scope_stack.specs.declared.entry.SortEntry.{SortEntry}
 use Rattle.scope_stack.specs.declared.entry.SortEntry.TheVariants as entry
 use Rattle.scope_stack.specs.Levels.{live}
 use Rattle.typer.specs.declared.world.World.{World}
+use Rattle.typer.specs.LiveRanks.{IsReadyEntry}
 use Rattle.typer.specs.SortSymbols.{is_theory_sort}
 
 -- the name of the sort symbol is in the table, and a parameter is below the number
@@ -48,9 +50,8 @@ may_have_params kind.Constructor = true
 may_have_params kind.Selector = true
 may_have_params _ = false
 
-pub record IsReadyFunEntry (texts : List (List ℕ)) (store : List Sort) (f : FunEntry) : Type 0 where
-  pub args : All (IsReadySchema texts store f.params) f.args
-  pub result : IsReadySchema texts store f.params f.result
+pub record IsReadyFunEntry (store : List Sort) (f : FunEntry) : Type 0 where
+  pub entry : IsReadyEntry store f
   pub params : may_have_params f.kind ≡ false → f.params ≡ 0
 
 -- a live sort symbol, whose name Core and the theories don't use
@@ -59,11 +60,8 @@ pub record IsReadySort (texts : List (List ℕ)) (theories : Theories) (store : 
   pub no_theory_sort : is_theory_sort texts theories d.0 ≡ false
   pub entry : IsReadySortEntry texts store d.1
 
-pub record IsReadyFun (texts : List (List ℕ)) (store : List Sort) (d : ℕ × FunEntry) : Type 0 where
-  pub name : d.0 < length texts
-  pub entry : IsReadyFunEntry texts store d.1
-
 pub record IsReady (world : World) : Type 0 where
   pub distinct : HasNoRepeats world.sorts
   pub sorts : All (IsReadySort world.names world.theories world.sorts) (live world.scopes.sorts)
-  pub funs : All (IsReadyFun world.names world.sorts) (live world.scopes.funs)
+  pub funs : All (λ (d : ℕ × FunEntry). IsReadyFunEntry world.sorts d.1) (live world.scopes.funs)
+  pub numbered : length world.seen.items ≤ world.next.0

@@ -1,16 +1,17 @@
 -- The rules on terms (SMT-LIB 2.6, section 3.6): one list of items for each production. A term is judged after its parts,
 -- and these from left to right.
-use Rattle.std.specs.Prelude.{◌≡◌, ℕ, ◌==◌, ◌&&◌, Bool, true, false, not, IsTrue, if◌then◌else◌, List, [], ◌∷◌, ◌++◌, codes, bytes_eq, map, Option, Some, None}
+use Rattle.std.specs.Prelude.{◌≡◌, ℕ, ◌+◌, ◌==◌, ◌&&◌, Bool, true, false, not, IsTrue, if◌then◌else◌, List, [], ◌∷◌, ◌++◌, length, codes, bytes_eq, map, Option, Some, None}
 use Rattle.std.specs.List.{list_any}
-use Rattle.sig_table.specs.declared.code.Code.TheVariants.{WrongTermForm, WrongTermSort, LiteralWithoutSort, UnknownFunction, WrongIndex, AppliedVariable, RepeatedVariable}
+use Rattle.sig_table.specs.declared.code.Code.TheVariants.{WrongTermForm, WrongTermSort, LiteralWithoutSort, UnknownFunction, WrongIndex, AppliedVariable, RepeatedVariable, WrongNamedTerm}
 use Rattle.sig_table.specs.declared.theories.Theories.{Theories}
 use Rattle.lex_core.specs.declared.place.Place.{Place}
 use Rattle.lex_core.specs.declared.token.Tok.{Tok}
-use Rattle.judgement.specs.Judging.{Judging, well_sorted, ill_sorted, done, ◌>>=◌, check, find, refuse}
+use Rattle.judgement.specs.Judging.{Judging, well_sorted, ill_sorted, done, ◌>>=◌, check, find, refuse, names, declare}
 use Rattle.term_grammar.specs.Words.{is_numeral}
 use Rattle.sexp_core.specs.Sexp.{Sexp}
 use Rattle.term_grammar.specs.Syntax.{Identifier, symbol, indexed, Qualified, unqualified, qualified, qualified_at, SortedSymbol, Attribute, keyword_attribute, valued_attribute, constant, qualified_term, application, let_in, for_all, there_exists, match_with, annotated, term_at, Terms, no_terms, with_term, Bindings, no_bindings, with_binding, Notes, no_notes, with_note, Note, named_note, pattern_note, attribute_note}
 use Rattle.term_grammar.specs.Syntax as syntax
+use Rattle.sort_store.specs.declared.head.DeclNo.{DeclNo}
 use Rattle.sort_store.specs.Tree.{Sort}
 use Rattle.sort_store.specs.CoreRanks.{bool}
 use Rattle.theory_core.specs.IntsRanks.{int}
@@ -23,7 +24,8 @@ use Rattle.term_store.specs.declared.parts.Fun.TheVariants as fun
 use Rattle.typer.specs.RankRules.{judge_rank}
 use Rattle.typer.specs.SortRules.{only_numeral, judge_sort}
 use Rattle.typer.specs.SortSymbols.{or_else}
-use Rattle.typer.specs.FunctionSymbols.{Signature, Function, theory, declared, function_of, indexed_function, text_of, HasRank, is_ambiguous}
+use Rattle.typer.specs.FunctionSymbols.{Signature, Function, theory, declared, function_of, indexed_function, text_of, HasRank, is_ambiguous, is_fun_in_use}
+use Rattle.typer.specs.FreeVariables.{has_free, is_one_of}
 
 -- the sort of a literal: a numeral is an Int where the logic has Ints
 abbrev pub literal_sort : Theories → Tok → Option Sort
@@ -172,6 +174,23 @@ plain_notes (n ∷ ns) = typed.more_notes n (plain_notes ns)
 abbrev pub annotated_term : PlainTerm → List PlainNote → PlainTerm
 annotated_term u ns = term tt (plain_sort u) (ann u (plain_notes ns))
 
+-- A term may be given a name where no variable stands free in it, and the name is not in use and none that the command has
+-- declared.
+abbrev pub MayBeNamed : Signature → List ℕ → PlainTerm → ℕ → Type 0
+MayBeNamed signature seen u name = (has_free [] u ≡ false) × (is_fun_in_use signature name ≡ false) × (is_one_of seen name ≡ false)
+
+-- the number of the next name that the command declares
+abbrev pub number_after : Signature → List ℕ → DeclNo
+number_after signature seen = record { 0 = signature.first + length seen }
+
+-- :named for this term
+abbrev pub judge_name : Signature → PlainTerm → Tok → Judging PlainNote
+judge_name signature u t = do
+  seen ← names
+  _ ← check (MayBeNamed signature seen u t.name) WrongNamedTerm t.at
+  _ ← declare t.name
+  done (typed.named (number_after signature seen) t.name)
+
 -- a term under a signature and the variables that are bound round it, the innermost last
 abbrev mutual
   pub judge_term : Signature → List (ℕ × Sort) → syntax.Term → Judging PlainTerm
@@ -190,7 +209,7 @@ abbrev mutual
   judge_term signature vars (match_with at u cs) = refuse WrongTermForm at
   judge_term signature vars (annotated at u ns) = do
     v ← judge_term signature vars u
-    ms ← judge_notes signature vars ns
+    ms ← judge_notes signature vars v ns
     done (annotated_term v ms)
 
   pub judge_terms : Signature → List (ℕ × Sort) → Terms → Judging (List PlainTerm)
@@ -208,25 +227,26 @@ abbrev mutual
     cs ← judge_bindings signature vars (others ++ x.name ∷ []) bs
     done (b ∷ cs)
 
-  -- The terms of a :pattern are judged as terms. Until terms are named, :named is refused.
-  pub judge_notes : Signature → List (ℕ × Sort) → Notes → Judging (List PlainNote)
-  judge_notes signature vars no_notes = done []
-  judge_notes signature vars (with_note n ns) = do
-    m ← judge_note signature vars n
-    ms ← judge_notes signature vars ns
+  -- the attributes of a term; the terms of a :pattern are judged as terms
+  pub judge_notes : Signature → List (ℕ × Sort) → PlainTerm → Notes → Judging (List PlainNote)
+  judge_notes signature vars u no_notes = done []
+  judge_notes signature vars u (with_note n ns) = do
+    m ← judge_note signature vars u n
+    ms ← judge_notes signature vars u ns
     done (m ∷ ms)
 
-  pub judge_note : Signature → List (ℕ × Sort) → Note → Judging PlainNote
-  judge_note signature vars (named_note t) = refuse WrongTermForm t.at
-  judge_note signature vars (pattern_note ts) = do
+  pub judge_note : Signature → List (ℕ × Sort) → PlainTerm → Note → Judging PlainNote
+  judge_note signature vars u (named_note t) = judge_name signature u t
+  judge_note signature vars u (pattern_note ts) = do
     us ← judge_terms signature vars ts
     done (typed.pattern (plain_terms us))
-  judge_note signature vars (attribute_note a) = done (typed.other (attribute_key a).name (attribute_value a))
+  judge_note signature vars u (attribute_note a) = done (typed.other (attribute_key a).name (attribute_value a))
 
--- The term is well sorted and this is its typed term, whatever names the command has declared so far; it declares none.
-abbrev pub Elaborates : Signature → List (ℕ × Sort) → syntax.Term → PlainTerm → Type 0
-Elaborates signature vars t u = (before : List ℕ) → judge_term signature vars t before (well_sorted u before)
+-- After these names that the command has declared the term is well sorted, and this is its typed term; then it has declared
+-- these.
+abbrev pub Elaborates : Signature → List (ℕ × Sort) → List ℕ → syntax.Term → PlainTerm → List ℕ → Type 0
+Elaborates signature vars before t u after = judge_term signature vars t before (well_sorted u after)
 
 -- The first rule that the term does not meet.
-abbrev pub TermFault : Signature → List (ℕ × Sort) → syntax.Term → Place → Type 0
-TermFault signature vars t place = (before : List ℕ) → judge_term signature vars t before (ill_sorted place)
+abbrev pub TermFault : Signature → List (ℕ × Sort) → List ℕ → syntax.Term → Place → Type 0
+TermFault signature vars before t place = judge_term signature vars t before (ill_sorted place)

@@ -11,6 +11,7 @@ use Rattle.typer.specs.declared.world.World.{World}
 use Rattle.typer.specs.declared.typed.TypedTerm.{TypedTerm}
 use Rattle.typer.specs.declared.typed.TypedTerms.{TypedTerms}
 use Rattle.typer.specs.declared.typed.TypedBinding.{TypedBinding}
+use Rattle.typer.specs.FunctionSymbols.{first_number}
 use Rattle.typer.specs.TermRules.{Binding, PlainNote}
 
 -- the world's stores made the term and the sort, which is the term's
@@ -33,6 +34,13 @@ pub record HasGrown (old new : World) : Type 0 where
   pub sorts : sorts.Grows old.sorts new.sorts
   pub terms : terms.Grows old.terms new.terms
   pub others : new ≡ record old { sorts = new.sorts; terms = new.terms }
+
+-- .. but for the names that the command has declared, with the number of the next one; that of the first stays
+pub record HasElaborated (old new : World) : Type 0 where
+  pub sorts : sorts.Grows old.sorts new.sorts
+  pub terms : terms.Grows old.terms new.terms
+  pub first : first_number new ≡ first_number old
+  pub others : new ≡ record old { sorts = new.sorts; terms = new.terms; seen = new.seen; next = new.next }
 
 -- a variable of a let: with the tree of its term, and with the sort that it has in the body
 abbrev pub binding_tree : TypedBinding → Binding

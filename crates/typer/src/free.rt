@@ -10,7 +10,8 @@ use sort_store::SortRef;
 use std::alloc::Global;
 use term_store::{Note, Pattern, TermNode, TermRef};
 
-fn is_one_of(names: &[NameId], name: NameId) -> bool
+/// Whether the name is one of some.
+pub(crate) fn is_one_of(names: &[NameId], name: NameId) -> bool
     ensures { result ≡ spec.is_one_of names.now name }
 {
     names.iter().any(|other| *other == name)

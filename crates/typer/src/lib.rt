@@ -1,4 +1,4 @@
-//! The sorting rules: which sort a raw sort stands for, or the first rule that it does not meet.
+//! The sorting rules: which sort a raw sort stands for, which typed term a term, or the first rule that it does not meet.
 #![tactic(auto)]
 
 mod apply;
@@ -10,6 +10,7 @@ mod in_use;
 mod laws;
 mod live;
 mod made;
+mod names;
 mod notes;
 mod numeral;
 mod sorts;
@@ -23,7 +24,8 @@ pub use binders::is_bool;
 pub use error::TyError;
 pub use free::has_free_variable;
 pub use in_use::{is_fun_in_use, is_sort_in_use};
-pub use laws::{closed_terms, sort_laws, soundness_laws, term_laws};
+pub use laws::{closed_terms, name_laws, sort_laws, soundness_laws, term_laws};
+pub use names::take_number;
 pub use numeral::numeral_value;
 pub use sorts::{type_sort, type_sorts};
 pub use symbol::is_theory_sort;

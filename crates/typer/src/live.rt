@@ -1,9 +1,9 @@
 //! The result sorts that the ranks of live function symbols give.
 ghost use Rattle.std.specs.Prelude.{◌≡◌, ◌<◌, ◌↔◌, ℕ, List, IfErr, IfOk, IfSome, IsTrue, None, Some, length, map, option_map, replicate};
 ghost use Rattle.sort_store.specs.Binding.{Agrees, FittedEach, HasValue, ValuesInterned};
-ghost use Rattle.sort_store.specs.Instance.{ParamsBelow};
+ghost use Rattle.sort_store.specs.Instance.{EachParamsBelow, ParamsBelow};
 ghost use Rattle.sort_store.specs.Interned.{IsInterned, AllInterned, HasNoRepeats, Grows, InternedTogether};
-ghost use Rattle.sort_store.specs.Tree.{NumberedSort, Sort, tree, sorts};
+ghost use Rattle.sort_store.specs.Tree.{NumberedSort, Sort, nodes, sorts, tree, trees};
 ghost use Rattle.typer.specs.Answers.{Answers, tree_answer};
 ghost use Rattle.typer.specs.Declarations.{fun_declaration};
 ghost use Rattle.typer.specs.LiveRanks as spec;
@@ -188,6 +188,7 @@ fn schema_sort(
     asked: &Option<SortRef>,
 ) -> Result<SortRef, TyError>
     requires ready { IsReadyEntry sorts.old entry.now }
+    requires below { EachParamsBelow entry.now.params (trees (nodes entry.now.args)) × ParamsBelow entry.now.params (tree entry.now.result) }
     requires args { AllInterned sorts.old args.now }
     requires asked { IfSome asked.now (IsInterned sorts.old) }
     requires distinct { HasNoRepeats sorts.old }

@@ -10,12 +10,12 @@ ghost use Rattle.term_store.specs.NumberedNodes.{numbered_note, numbered_notes};
 ghost use Rattle.term_grammar.specs.Syntax as syntax;
 ghost use Rattle.term_grammar.specs.Syntax.{qualified_at, term_at};
 ghost use Rattle.term_store.specs.Term.{plain_var, tree};
-ghost use Rattle.typer.specs.Answers.{Answers, asked_answer, bindings_answer, note_answer, notes_answer, term_answer, typed_answer, typed_answers};
+ghost use Rattle.typer.specs.Answers.{Answers, Meets, asked_answer, bindings_answer, note_answer, notes_answer, term_answer, typed_answer, typed_answers};
 ghost use Rattle.typer.specs.FunctionSymbols.{signature_of};
 ghost use Rattle.typer.specs.Ready.{IsReady};
 ghost use Rattle.typer.specs.TermRules as spec;
 ghost use Rattle.typer.specs.TermRules.{apply_head, judge_application, judge_asked, judge_bindings, judge_constant, judge_indexed_symbol, judge_literal, judge_note, judge_notes, judge_quantifier, judge_symbol, judge_term, judge_terms, judge_variable, judge_variables};
-ghost use Rattle.typer.specs.Typed.{AreBound, AreTyped, AreTypedBindings, HasGrown, IsTyped};
+ghost use Rattle.typer.specs.Typed.{AreBound, AreTyped, AreTypedBindings, HasElaborated, HasGrown, IsTyped};
 
 use crate::binders::{
     is_bool, new_let, new_quantifier, type_variables, with_bindings, with_variables,
@@ -23,6 +23,7 @@ use crate::binders::{
 use crate::error::{TyError, fault};
 use crate::head::{TypedHead, head, indexed_head};
 use crate::made::{constant_sort, copy_of};
+use crate::names::name_term;
 use crate::notes::{new_annotation, other_note};
 use crate::sorts::type_sort;
 use crate::typed::{TypedBinding, TypedTerm, TypedTerms, new_term};
@@ -234,9 +235,9 @@ fn elaborate_all(
 ) -> Result<TypedTerms, TyError>
     requires ready { IsReady world.old }
     requires vars { AreBound world.old vars.now }
-    ensures answer { Answers (typed_answers result) (judge_terms (signature_of world.old) (map plain_var vars.now) raws.now) }
+    ensures answer { Meets (typed_answers result) (judge_terms (signature_of world.old) (map plain_var vars.now) raws.now) world.old.seen.items world.new.seen.items }
     ensures typed { IfOk result (AreTyped world.new) }
-    ensures grown { HasGrown world.old world.new }
+    ensures grown { HasElaborated world.old world.new }
     ensures ready { IsReady world.new }
 {
     let mut typed = TypedTerms::new(world.alloc);
@@ -280,9 +281,9 @@ fn elaborate_applied(
 ) -> Result<TypedTerm, TyError>
     requires ready { IsReady world.old }
     requires vars { AreBound world.old vars.now }
-    ensures answer { Answers (typed_answer result) (judge_term (signature_of world.old) (map plain_var vars.now) (syntax.application at head.now args.now)) }
+    ensures answer { Meets (typed_answer result) (judge_term (signature_of world.old) (map plain_var vars.now) (syntax.application at head.now args.now)) world.old.seen.items world.new.seen.items }
     ensures typed { IfOk result (IsTyped world.new) }
-    ensures grown { HasGrown world.old world.new }
+    ensures grown { HasElaborated world.old world.new }
     ensures ready { IsReady world.new }
 {
     let asked = asked_sort(world, head)?;
@@ -306,9 +307,9 @@ fn elaborate_bindings(
 ) -> Result<Vec<TypedBinding>, TyError>
     requires ready { IsReady world.old }
     requires vars { AreBound world.old vars.now }
-    ensures answer { Answers (bindings_answer result) (judge_bindings (signature_of world.old) (map plain_var vars.now) [] raws.now) }
+    ensures answer { Meets (bindings_answer result) (judge_bindings (signature_of world.old) (map plain_var vars.now) [] raws.now) world.old.seen.items world.new.seen.items }
     ensures typed { IfOk result (λ v. AreTypedBindings world.new v.items) }
-    ensures grown { HasGrown world.old world.new }
+    ensures grown { HasElaborated world.old world.new }
     ensures ready { IsReady world.new }
 {
     let mut bindings = Vec::new(world.alloc);
@@ -340,9 +341,9 @@ fn elaborate_let(
 ) -> Result<TypedTerm, TyError>
     requires ready { IsReady world.old }
     requires vars { AreBound world.old vars.now }
-    ensures answer { (at : ℕ) → Answers (typed_answer result) (judge_term (signature_of world.old) (map plain_var vars.now) (syntax.let_in at bindings.now body.now)) }
+    ensures answer { (at : ℕ) → Meets (typed_answer result) (judge_term (signature_of world.old) (map plain_var vars.now) (syntax.let_in at bindings.now body.now)) world.old.seen.items world.new.seen.items }
     ensures typed { IfOk result (IsTyped world.new) }
-    ensures grown { HasGrown world.old world.new }
+    ensures grown { HasElaborated world.old world.new }
     ensures ready { IsReady world.new }
 {
     let bindings = elaborate_bindings(world, vars, bindings)?;
@@ -362,10 +363,10 @@ fn elaborate_quantifier(
 ) -> Result<TypedTerm, TyError>
     requires ready { IsReady world.old }
     requires vars { AreBound world.old vars.now }
-    ensures answer { Answers (typed_answer result) (judge_quantifier all (term_at body.now) (judge_variables (signature_of world.old) variables.now)
-        (λ own. judge_term (signature_of world.old) (map plain_var vars.now ++ own) body.now)) }
+    ensures answer { Meets (typed_answer result) (judge_quantifier all (term_at body.now) (judge_variables (signature_of world.old) variables.now)
+        (λ own. judge_term (signature_of world.old) (map plain_var vars.now ++ own) body.now)) world.old.seen.items world.new.seen.items }
     ensures typed { IfOk result (IsTyped world.new) }
-    ensures grown { HasGrown world.old world.new }
+    ensures grown { HasElaborated world.old world.new }
     ensures ready { IsReady world.new }
 {
     let own = type_variables(world, variables)?;
@@ -377,22 +378,23 @@ fn elaborate_quantifier(
     new_quantifier(world, all, own, typed)
 }
 
-// An attribute of a term.
+// An attribute of the term.
 #[cycle(terms)]
 fn elaborate_note(
     world: &mut World,
     vars: &[(NameId, SortRef)],
+    body: &TermRef,
     raw: &RawNote,
 ) -> Result<Note, TyError>
     requires ready { IsReady world.old }
     requires vars { AreBound world.old vars.now }
-    ensures answer { Answers (note_answer result) (judge_note (signature_of world.old) (map plain_var vars.now) raw.now) }
+    ensures answer { Meets (note_answer result) (judge_note (signature_of world.old) (map plain_var vars.now) (tree body.now) raw.now) world.old.seen.items world.new.seen.items }
     ensures interned { IfOk result (λ n. IsNoteInterned world.new.terms (numbered_note n)) }
-    ensures grown { HasGrown world.old world.new }
+    ensures grown { HasElaborated world.old world.new }
     ensures ready { IsReady world.new }
 {
     match raw.kind() {
-        RawNoteKind::Named { name } => Err(fault(Code::WrongTermForm, name.at)),
+        RawNoteKind::Named { name } => name_term(world, body, name),
         RawNoteKind::Pattern { terms } => match elaborate_all(world, vars, &terms) {
             Ok(typed) => Ok(Note::Pattern(typed.terms)),
             Err(error) => Err(error),
@@ -401,24 +403,25 @@ fn elaborate_note(
     }
 }
 
-// The attributes of a term in order, or the first fault.
+// The attributes of the term in order, or the first fault.
 #[cycle(terms)]
 fn elaborate_notes(
     world: &mut World,
     vars: &[(NameId, SortRef)],
+    body: &TermRef,
     raws: &RawNotes,
 ) -> Result<Vec<Note>, TyError>
     requires ready { IsReady world.old }
     requires vars { AreBound world.old vars.now }
-    ensures answer { Answers (notes_answer result) (judge_notes (signature_of world.old) (map plain_var vars.now) raws.now) }
+    ensures answer { Meets (notes_answer result) (judge_notes (signature_of world.old) (map plain_var vars.now) (tree body.now) raws.now) world.old.seen.items world.new.seen.items }
     ensures interned { IfOk result (λ v. AreNotesInterned world.new.terms (numbered_notes v.items)) }
-    ensures grown { HasGrown world.old world.new }
+    ensures grown { HasElaborated world.old world.new }
     ensures ready { IsReady world.new }
 {
     let mut notes = Vec::new(world.alloc);
     let mut next = raws.split();
     while let Some((first, rest)) = next {
-        let note = elaborate_note(world, vars, &first)?;
+        let note = elaborate_note(world, vars, body, &first)?;
         match notes.push(note) {
             Ok(()) => {}
             Err(_) => return Err(TyError::NoMemory),
@@ -438,13 +441,13 @@ fn elaborate_annotated(
 ) -> Result<TypedTerm, TyError>
     requires ready { IsReady world.old }
     requires vars { AreBound world.old vars.now }
-    ensures answer { (at : ℕ) → Answers (typed_answer result) (judge_term (signature_of world.old) (map plain_var vars.now) (syntax.annotated at body.now notes.now)) }
+    ensures answer { (at : ℕ) → Meets (typed_answer result) (judge_term (signature_of world.old) (map plain_var vars.now) (syntax.annotated at body.now notes.now)) world.old.seen.items world.new.seen.items }
     ensures typed { IfOk result (IsTyped world.new) }
-    ensures grown { HasGrown world.old world.new }
+    ensures grown { HasElaborated world.old world.new }
     ensures ready { IsReady world.new }
 {
     let body = elaborate(world, vars, body)?;
-    let notes = elaborate_notes(world, vars, notes)?;
+    let notes = elaborate_notes(world, vars, &body.term, notes)?;
     new_annotation(world, body, notes)
 }
 
@@ -457,9 +460,9 @@ fn elaborate(
 ) -> Result<TypedTerm, TyError>
     requires ready { IsReady world.old }
     requires vars { AreBound world.old vars.now }
-    ensures answer { Answers (typed_answer result) (judge_term (signature_of world.old) (map plain_var vars.now) raw.now) }
+    ensures answer { Meets (typed_answer result) (judge_term (signature_of world.old) (map plain_var vars.now) raw.now) world.old.seen.items world.new.seen.items }
     ensures typed { IfOk result (IsTyped world.new) }
-    ensures grown { HasGrown world.old world.new }
+    ensures grown { HasElaborated world.old world.new }
     ensures ready { IsReady world.new }
 {
     let at = raw.at();
@@ -481,7 +484,8 @@ fn elaborate(
 
 /// The typed term of a term (SMT-LIB 2.6, section 3.6), where these variables are bound round it, the innermost last. The errors
 /// are the first rule that it does not meet, with its byte, and that memory runs out. The stores of sorts and terms only grow,
-/// also before an error; all else stays as it was.
+/// also before an error, and so do the names that the command has declared, with the number of the next one: each `:named` in the
+/// term gives one. All else stays as it was; the names are not declared in the scopes.
 pub fn type_term(
     world: &mut World,
     vars: &[(NameId, SortRef)],
@@ -489,9 +493,9 @@ pub fn type_term(
 ) -> Result<TermRef, TyError>
     requires ready { IsReady world.old }
     requires vars { AreBound world.old vars.now }
-    ensures answer { Answers (term_answer result) (judge_term (signature_of world.old) (map plain_var vars.now) raw.entry) }
+    ensures answer { Meets (term_answer result) (judge_term (signature_of world.old) (map plain_var vars.now) raw.entry) world.old.seen.items world.new.seen.items }
     ensures interned { IfOk result (terms.IsInterned world.new.terms) }
-    ensures grown { HasGrown world.old world.new }
+    ensures grown { HasElaborated world.old world.new }
     ensures ready { IsReady world.new }
 {
     match elaborate(world, vars, &raw) {

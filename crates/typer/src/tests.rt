@@ -86,7 +86,7 @@ static THEORY_SORTS: [Row; 14] = [
 type TermRow = (&'static [u8], &'static [u8], u32);
 
 // Terms where the logic has Ints, and nothing is declared: the answer is a code and a byte.
-static TERMS: [TermRow; 18] = [
+static TERMS: [TermRow; 32] = [
     // The terms of a let stand in the outer variables, its body in all.
     (b"(let ((x true) (y false)) (and x y))", b"ok", 0),
     (b"(let ((x true) (y x)) y)", b"TY-1", 18),
@@ -117,6 +117,30 @@ static TERMS: [TermRow; 18] = [
         b"TY-1",
         41,
     ),
+    // Each :named gives one name, which is not live yet.
+    (b"(! (= 1 1) :named a)", b"ok", 0),
+    (b"(! (! true :named c) :named d)", b"ok", 0),
+    (b"(! true :named p :named q)", b"ok", 0),
+    (b"(and (! true :named b) (! false :named b))", b"TY-9", 39),
+    (b"(! (! true :named e) :named e)", b"TY-9", 28),
+    (b"(and (! true :named n) n)", b"TY-1", 23),
+    (b"(! true :named and)", b"TY-9", 15),
+    (b"(let ((x (! true :named f))) x)", b"ok", 0),
+    // No variable stands free in the term, also not in a pattern.
+    (b"(let ((x true)) (! x :named g))", b"TY-9", 28),
+    (b"(forall ((x Int)) (! (= x x) :named h))", b"TY-9", 36),
+    (b"(forall ((x Int)) (! (= 1 1) :named h))", b"ok", 0),
+    (
+        b"(forall ((x Int)) (! (! true :pattern (x)) :named k))",
+        b"TY-9",
+        50,
+    ),
+    (
+        b"(! true :pattern ((! (= 1 1) :named l)) :named m)",
+        b"ok",
+        0,
+    ),
+    (b"(! true :named o :pattern (y))", b"TY-1", 27),
 ];
 
 fn is_named(names: &Names, name: NameId) -> bool

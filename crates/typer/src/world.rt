@@ -6,16 +6,17 @@ ghost use Rattle.term_store.specs.Script.{empty_script};
 ghost use Rattle.typer.specs.Ready.{IsReady};
 
 use io_core::NoMemory;
-use lex_core::Names;
+use lex_core::{NameId, Names};
 use scope_stack::Scopes;
 use sig_table::Theories;
-use sort_store::SortStore;
+use sort_store::{DeclNo, SortStore};
 use std::alloc::Global;
 use term_store::{Script, TermStore};
 
 /// What the sorting rules look at: the accepted commands with what they define, the live declarations,
-/// the terms and sorts made so far, the names and the theories of the logic. What holds terms and sorts
-/// stands above the store that made them, so that no drop runs deep.
+/// the terms and sorts made so far, the names, the theories of the logic, and which names the command
+/// has declared. What holds terms and sorts stands above the store that made them, so that no drop runs
+/// deep.
 #[derive(Drop)]
 pub struct World {
     pub script: Script,
@@ -24,6 +25,10 @@ pub struct World {
     pub sorts: SortStore,
     pub names: Names,
     pub theories: Theories,
+    /// The names that the command has declared so far: its own, then those that `:named` gave.
+    pub seen: Vec<NameId>,
+    /// The number of the next name that the command declares.
+    pub next: DeclNo,
     pub(crate) alloc: Global,
 }
 
@@ -36,6 +41,8 @@ impl World {
         ensures terms { IfOk result (λ w. w.terms ≡ []) }
         ensures scopes { IfOk result (λ w. w.scopes ≡ empty) }
         ensures theories { IfOk result (λ w. w.theories ≡ record { ints = false; arrays = false; bits = false }) }
+        ensures seen { IfOk result (λ w. w.seen.items ≡ []) }
+        ensures next { IfOk result (λ w. w.next.0 ≡ 0) }
         ensures ready { IfOk result (λ w. IsReady w) }
     {
         let theories = Theories {
@@ -51,6 +58,8 @@ impl World {
             sorts: SortStore::new(alloc),
             names,
             theories,
+            seen: Vec::new(alloc),
+            next: DeclNo(0),
             alloc,
         })
     }

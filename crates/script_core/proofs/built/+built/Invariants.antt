@@ -1,12 +1,9 @@
-use Rattle.std.proofs.Common.{◌≡◌, ◌≤◌, ◌+◌}
+use Rattle.std.proofs.Common.{◌≡◌, ◌≤◌}
 use Rattle.script_core.specs.RuleAnswers.{answer_all_built, answer_bindings_built, answer_notes_built, bindings_left, bindings_size, note_size, notes_left, notes_size, terms_left, term_size, terms_size}
 use Rattle.script_core.proofs.built.+built.Given as goal
 
 abbrev pub decreases-judge_built : goal.decreases-judge_built
 decreases-judge_built l = term_size l.term.now
-
-abbrev pub decreases-judge_annotation_built : goal.decreases-judge_annotation_built
-decreases-judge_annotation_built l = 1 + (term_size l.term.now + notes_size l.notes.now)
 
 abbrev pub decreases-judge_all_built : goal.decreases-judge_all_built
 decreases-judge_all_built l = terms_size l.terms.now

@@ -14,6 +14,7 @@ loop-next-init c = let scope = c.args.scope.now in let start = environment_of sc
   named = named_left scope.world.names c.args.declarations.now c.split-next.result c.split-next.ensures c.requires.named;
   logic = c.requires.logic;
   names = refl;
+  unnamed = (refl, refl);
   script = refl;
   stands = c.requires.stands;
 }
@@ -42,6 +43,7 @@ loop-next-preserved c =
       named = named_left names c.in-Some.rest c.split-next-in-Some.result c.split-next-in-Some.ensures (named_rest names (fun_decs_left l.next) c.in-Some.first c.in-Some.rest (ap fun_decs_left c.in-Some.is) l.invariant.named);
       logic = logic_set names old after (map plain_header c.push.new.self) live c.requires.logic;
       names = c.next_header.ensures.names ∙ l.invariant.names;
+      unnamed = (c.next_header.ensures.unnamed.0 ∙ l.invariant.unnamed.0, c.next_header.ensures.unnamed.1 ∙ l.invariant.unnamed.1);
       script = c.next_header.ensures.script ∙ l.invariant.script;
       stands = c.next_header.ensures.stands;
     }

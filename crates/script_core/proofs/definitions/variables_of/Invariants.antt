@@ -10,7 +10,7 @@ use Rattle.script_core.proofs.definitions.variables_of.Given as goal
 -- what the variables that are left have as outcome after those so far, all have it, and only sorts are new
 abbrev pub invariant-loop-next : goal.invariant-loop-next
 invariant-loop-next l = record {
-  onward : Onward (judge_variables (environment_of l.fn.scope.world.names l.fn.scope)) [] l.params (map (λ v. v.0) l.vars) (variables_left l.next) (map plain_var l.vars);
+  onward : Onward (judge_variables (environment_of l.fn.scope.world.names l.fn.scope)) [] l.params (map (λ v. v.0) l.vars) (variables_left l.next) (map plain_var l.vars) [] [];
   grown : OnlySortsGrow l.fn.scope l.scope;
   ready : AreReadyVars l.scope l.vars;
   stands : IsReadyScope l.scope;

@@ -1,4 +1,5 @@
 use Rattle.std.proofs.Common.{refl}
+use Rattle.typer.proofs.ReadyCalls.{fun_of_schemas}
 use Rattle.script_core.proofs.TakingParts.{added_env, fun_added}
 use Rattle.script_core.proofs.ReadyScopes.{fun_stands}
 use Rattle.script_core.proofs.effects.add_function.Goals as goal
@@ -9,4 +10,5 @@ returns-in-Ok-clause-effect c = let scope = c.args.scope.now in
 
 pub returns-in-Ok-clause-stands : goal.returns-in-Ok-clause-stands
 returns-in-Ok-clause-stands c =
-    fun_stands c.args.scope.now c.declare_fun.new.self c.in-Some.next c.requires.stands c.requires.logic c.args.name _ c.in-Ok.ensures.ok c.requires.named (record { args = c.requires.args; result = c.requires.sort; params = λ _. refl })
+    fun_stands c.args.scope.now c.declare_fun.new.self c.in-Some.next c.requires.stands c.requires.logic c.args.name _ c.in-Ok.ensures.ok
+    (fun_of_schemas c.args.scope.now.world.names c.args.scope.now.world.sorts _ c.requires.args c.requires.sort (λ _. refl))

@@ -1,13 +1,18 @@
-use Rattle.std.proofs.Common.{ap}
 use Rattle.script_core.specs.Keeping.{definitions_in}
-use Rattle.script_core.proofs.KeptDefinitions.{all_unused}
+use Rattle.script_core.proofs.KeptDefinitions.{first_part, first_unused, others_unused, when_kept, when_part}
 use Rattle.script_core.proofs.keeping.keep_definitions.Goals as goal
 
+pub keep_own-requires : goal.keep_own-requires
+keep_own-requires c = first_unused c.args.script.now.defs (definitions_in c.args.command.now) c.args.named.now c.requires
+
 pub keep_all-requires : goal.keep_all-requires
-keep_all-requires c = all_unused c.args.script.now c.args.command.now _ c.from_ref.result.now c.requires (ap definitions_in c.in-DefineFun.is) c.from_ref.ensures.value
+keep_all-requires c = others_unused c.args.script.now c.keep_own.new.script (definitions_in c.args.command.now) c.args.named.now c.in-Ok.ensures.ok c.requires
 
-pub keep_all-requires-in-DefineFunRec : goal.keep_all-requires-in-DefineFunRec
-keep_all-requires-in-DefineFunRec c = all_unused c.args.script.now c.args.command.now _ c.from_ref-in-DefineFunRec.result.now c.requires (ap definitions_in c.in-DefineFunRec.is) c.from_ref-in-DefineFunRec.ensures.value
+pub returns-in-Ok-clause-ok : goal.returns-in-Ok-clause-ok
+returns-in-Ok-clause-ok c = when_kept c.keep_all.result c.args.script.now c.keep_own.new.script c.keep_all.new.script (definitions_in c.args.command.now) c.args.named.now c.in-Ok.ensures.ok c.keep_all.ensures.ok
 
-pub keep_all-requires-in-DefineFunsRec : goal.keep_all-requires-in-DefineFunsRec
-keep_all-requires-in-DefineFunsRec c = all_unused c.args.script.now c.args.command.now _ c.as_slice.result.now c.requires (ap definitions_in c.in-DefineFunsRec.is) c.as_slice.ensures
+pub returns-in-Ok-clause-left : goal.returns-in-Ok-clause-left
+returns-in-Ok-clause-left c = when_part c.keep_all.result c.args.script.now c.keep_own.new.script c.keep_all.new.script (definitions_in c.args.command.now) c.args.named.now c.in-Ok.ensures.ok c.keep_all.ensures.left
+
+pub returns-in-Err-clause-left : goal.returns-in-Err-clause-left
+returns-in-Err-clause-left c = first_part c.args.script.now c.keep_own.new.script (definitions_in c.args.command.now) c.args.named.now c.in-Err.ensures.left

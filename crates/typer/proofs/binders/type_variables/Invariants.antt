@@ -1,4 +1,4 @@
-use Rattle.std.proofs.Common.{length, map}
+use Rattle.std.proofs.Common.{ℕ, List, length, map}
 use Rattle.term_store.specs.Term.{plain_var}
 use Rattle.typer.specs.FunctionSymbols.{signature_of}
 use Rattle.typer.specs.Ready.{IsReady}
@@ -10,7 +10,7 @@ use Rattle.typer.proofs.binders.type_variables.Given as goal
 
 abbrev pub invariant-loop-next : goal.invariant-loop-next
 invariant-loop-next l = record {
-  onward : Onward (judge_variables (signature_of l.fn.world)) l.raws (variables_left l.next) (map plain_var l.vars.items);
+  onward : (before : List ℕ) → Onward (judge_variables (signature_of l.fn.world)) l.raws (variables_left l.next) (map plain_var l.vars.items) before before;
   bound : AreBound l.world l.vars.items;
   grown : HasGrown l.fn.world l.world;
   ready : IsReady l.world;

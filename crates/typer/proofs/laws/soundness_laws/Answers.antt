@@ -1,6 +1,5 @@
 use Rattle.typer.proofs.SoundSorts.{sound_sort}
 use Rattle.typer.proofs.SoundTerms.{sound_term}
-use Rattle.typer.proofs.NoNames.{no_names}
 use Rattle.typer.proofs.AppliedNumbers.{applies_below}
 use Rattle.typer.proofs.laws.soundness_laws.Goals as goal
 
@@ -9,9 +8,6 @@ returns-clause-sorts c = sound_sort
 
 pub returns-clause-terms : goal.returns-clause-terms
 returns-clause-terms c script signature vars sound given raw = sound_term script signature sound raw vars given
-
-pub returns-clause-names : goal.returns-clause-names
-returns-clause-names c signature vars raw = no_names signature raw vars
 
 pub returns-clause-lower : goal.returns-clause-lower
 returns-clause-lower c n signature below vars raw = applies_below n signature below raw vars

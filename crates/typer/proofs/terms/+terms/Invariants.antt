@@ -6,7 +6,7 @@ use Rattle.term_store.specs.Interned.{AreNotesInterned}
 use Rattle.term_store.specs.NumberedNodes.{numbered_notes}
 use Rattle.typer.specs.declared.typed.TypedBinding.{TypedBinding}
 use Rattle.typer.specs.TermRules.{judge_bindings, judge_notes, judge_terms}
-use Rattle.typer.specs.Typed.{AreTyped, AreTypedBindings, HasGrown, binding_tree, plain_note}
+use Rattle.typer.specs.Typed.{AreTyped, AreTypedBindings, HasElaborated, binding_tree, plain_note}
 use Rattle.typer.proofs.ListSteps.{Leads, Onward}
 use Rattle.typer.proofs.TermSteps.{size, sizes, bindings_size, notes_size, note_size, left, bindings_left, notes_left}
 use Rattle.typer.proofs.terms.+terms.Given as goal
@@ -22,9 +22,9 @@ decreases-elaborate_all l = sizes l.raws.now
 
 abbrev pub invariant-elaborate_all-loop-next : goal.invariant-elaborate_all-loop-next
 invariant-elaborate_all-loop-next l = record {
-  onward : Onward (judge_terms (signature_of l.fn.world) (map plain_var l.vars)) l.raws (left l.next) (map tree l.typed.terms.items);
+  onward : Onward (judge_terms (signature_of l.fn.world) (map plain_var l.vars)) l.raws (left l.next) (map tree l.typed.terms.items) l.fn.world.seen.items l.world.seen.items;
   typed : AreTyped l.world l.typed;
-  grown : HasGrown l.fn.world l.world;
+  grown : HasElaborated l.fn.world l.world;
   ready : IsReady l.world;
   smaller : sizes (left l.next) ≤ sizes l.raws;
 }
@@ -53,9 +53,9 @@ decreases-elaborate_note l = note_size l.raw.now
 abbrev pub invariant-elaborate_bindings-loop-next : goal.invariant-elaborate_bindings-loop-next
 invariant-elaborate_bindings-loop-next l = record {
   onward : Leads (judge_bindings (signature_of l.fn.world) (map plain_var l.vars) [] l.raws)
-      (judge_bindings (signature_of l.fn.world) (map plain_var l.vars) (map (λ (b : TypedBinding). b.name) l.bindings.items) (bindings_left l.next)) (map binding_tree l.bindings.items);
+      (judge_bindings (signature_of l.fn.world) (map plain_var l.vars) (map (λ (b : TypedBinding). b.name) l.bindings.items) (bindings_left l.next)) (map binding_tree l.bindings.items) l.fn.world.seen.items l.world.seen.items;
   typed : AreTypedBindings l.world l.bindings.items;
-  grown : HasGrown l.fn.world l.world;
+  grown : HasElaborated l.fn.world l.world;
   ready : IsReady l.world;
   smaller : bindings_size (bindings_left l.next) ≤ bindings_size l.raws;
 }
@@ -65,9 +65,9 @@ decreases-elaborate_bindings-loop-next l = bindings_size (bindings_left l.next)
 
 abbrev pub invariant-elaborate_notes-loop-next : goal.invariant-elaborate_notes-loop-next
 invariant-elaborate_notes-loop-next l = record {
-  onward : Onward (judge_notes (signature_of l.fn.world) (map plain_var l.vars)) l.raws (notes_left l.next) (map plain_note l.notes.items);
+  onward : Onward (judge_notes (signature_of l.fn.world) (map plain_var l.vars) (tree l.body)) l.raws (notes_left l.next) (map plain_note l.notes.items) l.fn.world.seen.items l.world.seen.items;
   interned : AreNotesInterned l.world.terms (numbered_notes l.notes.items);
-  grown : HasGrown l.fn.world l.world;
+  grown : HasElaborated l.fn.world l.world;
   ready : IsReady l.world;
   smaller : notes_size (notes_left l.next) ≤ notes_size l.raws;
 }

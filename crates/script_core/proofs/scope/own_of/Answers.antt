@@ -1,0 +1,44 @@
+use Rattle.std.proofs.Common.{◌∙◌, ap, refl, subst, sym, Err, Ok}
+use Rattle.cmd_grammar.specs.CommandViews.{command_from}
+use Rattle.script_core.specs.Checking.{environment_of}
+use Rattle.script_core.specs.Effects.{IsDeclaredNamed, IsInMode, seen_by}
+use Rattle.script_core.specs.Environment.{Environment}
+use Rattle.script_core.proofs.RuleMeanings.{command_in_mode, command_named, parts_moved, tree_allowed, tree_broken, tree_no_command, tree_outside, tree_refused}
+use Rattle.script_core.proofs.scope.own_of.Goals as goal
+
+pub returns-in-Err-Fault-clause-answer : goal.returns-in-Err-Fault-clause-answer
+returns-in-Err-Fault-clause-answer c = let names = c.args.scope.now.world.names in let fault = c.in-Err-Fault in
+    tree_no_command (environment_of names c.args.scope.now) (environment_of names c.args.scope.now) (seen_by c.args.scope.now) c.args.tree.now fault.field-0 fault.place fault.field-0-is fault.ensures
+
+pub returns-in-Err-clause-answer : goal.returns-in-Err-clause-answer
+returns-in-Err-clause-answer c = let names = c.args.scope.now.world.names in
+    tree_broken (environment_of names c.args.scope.now) (environment_of names c.args.scope.now) (seen_by c.args.scope.now) c.args.tree.now (command_from c.kind-kind.result) c.at-at.result
+    c.in-Err.place (c.in-Ok.ensures.0 ∙ ap Ok c.kind-kind.ensures) (c.at-at.ensures ∙ c.in-Ok.ensures.1) (sym c.in-Err.ensures)
+
+pub take_parts-requires-clause-named : goal.take_parts-requires-clause-named
+take_parts-requires-clause-named c =
+    subst (λ ns. IsDeclaredNamed ns (command_from c.kind-kind.result)) (sym c.begin_names.ensures.names)
+    (command_named c.args.scope.now.world.names c.args.tree.now (command_from c.kind-kind.result) c.requires.interned (c.in-Ok.ensures.0 ∙ ap Ok c.kind-kind.ensures))
+
+pub take_parts-requires-clause-mode : goal.take_parts-requires-clause-mode
+take_parts-requires-clause-mode c =
+    subst (λ (e : Environment). IsInMode e.logic (command_from c.kind-kind.result)) (sym c.begin_names.ensures.same)
+    (command_in_mode (environment_of c.args.scope.now.world.names c.args.scope.now) c.at-at.result (command_from c.kind-kind.result) (sym c.in-Ok-judge_command.ensures))
+
+pub returns-in-Err-take_parts-clause-answer : goal.returns-in-Err-take_parts-clause-answer
+returns-in-Err-take_parts-clause-answer c = let old = c.args.scope.now in let here = c.begin_names.new.scope in let new = c.take_parts.new.scope in let names = old.world.names in
+    tree_refused (environment_of names old) (environment_of names new) (seen_by new) c.args.tree.now (command_from c.kind-kind.result) c.at-at.result
+    (c.in-Ok.ensures.0 ∙ ap Ok c.kind-kind.ensures) (c.at-at.ensures ∙ c.in-Ok.ensures.1) (sym c.in-Ok-judge_command.ensures) c.in-Err-take_parts.error
+    (parts_moved old here new c.at-at.result (command_from c.kind-kind.result) (Err c.in-Err-take_parts.error) (seen_by new) c.begin_names.ensures.same c.begin_names.ensures.names c.in-Err-take_parts.ensures.answer)
+
+pub returns-in-Ok-judge_fragment-clause-answer : goal.returns-in-Ok-judge_fragment-clause-answer
+returns-in-Ok-judge_fragment-clause-answer c = let old = c.args.scope.now in let here = c.begin_names.new.scope in let new = c.take_parts.new.scope in let names = old.world.names in
+    tree_allowed (environment_of names old) (environment_of names new) (seen_by new) c.args.tree.now (command_from c.kind-kind.result) c.at-at.result
+    (c.in-Ok.ensures.0 ∙ ap Ok c.kind-kind.ensures) (c.at-at.ensures ∙ c.in-Ok.ensures.1) (sym c.in-Ok-judge_command.ensures) c.in-Ok-take_parts.command _
+    (parts_moved old here new c.at-at.result (command_from c.kind-kind.result) (Ok c.in-Ok-take_parts.command) (seen_by new) c.begin_names.ensures.same c.begin_names.ensures.names c.in-Ok-take_parts.ensures.answer) c.in-Ok-judge_fragment.ensures refl
+
+pub returns-in-Err-judge_fragment-clause-answer : goal.returns-in-Err-judge_fragment-clause-answer
+returns-in-Err-judge_fragment-clause-answer c = let old = c.args.scope.now in let here = c.begin_names.new.scope in let new = c.take_parts.new.scope in let names = old.world.names in
+    tree_outside (environment_of names old) (environment_of names new) (seen_by new) c.args.tree.now (command_from c.kind-kind.result) c.at-at.result
+    (c.in-Ok.ensures.0 ∙ ap Ok c.kind-kind.ensures) (c.at-at.ensures ∙ c.in-Ok.ensures.1) (sym c.in-Ok-judge_command.ensures) c.in-Ok-take_parts.command _
+    (parts_moved old here new c.at-at.result (command_from c.kind-kind.result) (Ok c.in-Ok-take_parts.command) (seen_by new) c.begin_names.ensures.same c.begin_names.ensures.names c.in-Ok-take_parts.ensures.answer) c.in-Err-judge_fragment.ensures c.in-Err-judge_fragment.place refl
