@@ -25,7 +25,7 @@ core_alone = record { ints = false; arrays = false; bits = false }
 
 -- every theory that is built
 abbrev pub every_theory : Theories
-every_theory = record { ints = true; arrays = true; bits = false }
+every_theory = record { ints = true; arrays = true; bits = true }
 
 -- the theories of a logic that is built, by its name
 abbrev pub logic_theories : List ℕ → Option Theories

@@ -22,7 +22,7 @@ fn every_theory() -> Theories
     Theories {
         ints: true,
         arrays: true,
-        bits: false,
+        bits: true,
     }
 }
 

@@ -1,5 +1,6 @@
 ghost use Rattle.std.specs.Prelude.{◌≡◌, false};
 
+mod bits;
 mod definitions;
 mod naming;
 
@@ -93,8 +94,8 @@ fn refuses_texts_at_their_bytes(rt: HostRuntime) -> Result<(), Fail> {
         (
             b"(set-logic QF_UF)(assert (let ((x true)) (! x :weight 1 :named n)))",
             2,
-            41,
-            Code::WrongTermForm,
+            63,
+            Code::WrongNamedTerm,
         ),
         (b"(assert true)", 1, 0, Code::LogicNotSet),
         (b"(get-model)", 1, 0, Code::LogicNotSet),

@@ -14,8 +14,9 @@ use Rattle.term_store.specs.declared.parts.Applied.{Applied}
 use Rattle.term_store.specs.SoundTerms.{AppliesBelow, EachAppliesBelow, IsFunBelow, NoteAppliesBelow, NotesApplyBelow}
 use Rattle.term_store.specs.Term.{PlainTerm, plain_sort, plain_terms}
 use Rattle.theory_core.specs.TheorySymbols.{form_of}
+use Rattle.typer.specs.BitVectors.{bits_form, index_of}
 use Rattle.typer.specs.Declarations.{Declarations, FunDeclaration}
-use Rattle.typer.specs.FunctionSymbols.{Signature, Function, declared, function_of, if_plain, if_indexed, text_of}
+use Rattle.typer.specs.FunctionSymbols.{Signature, Function, theory, bits, declared, function_of, indexed_function, if_plain, if_indexed, text_of}
 use Rattle.typer.specs.SortSymbols.{or_else}
 use Rattle.typer.specs.TermRules.{Binding, PlainNote, apply_head, bound, bound_sort, fun_of, identifier_of, judge_application, judge_bindings, judge_function, judge_head, judge_indexed_head, judge_note, judge_notes, judge_quantifier, judge_symbol, judge_term, judge_terms, judge_variables, plain_notes}
 use Rattle.typer.proofs.NameSteps.{lookup_all}
@@ -29,15 +30,15 @@ module _ (n : ℕ) (signature : Signature) (below : AreFunctionsBelow n signatur
   IsBelow None = Unit {0}
   IsBelow (Some f) = IsFunBelow n (fun_of f)
 
-  plain_below : (o : Option NameForm) (text : List ℕ) → IsBelow (if_plain o text)
-  plain_below (Some form.Plain) text = tt
-  plain_below (Some form.Indexed) text = tt
-  plain_below None text = tt
+  plain_below : (o : Option NameForm) (f : Function) → IsFunBelow n (fun_of f) → IsBelow (if_plain o f)
+  plain_below (Some form.Plain) f h = h
+  plain_below (Some form.Indexed) f h = tt
+  plain_below None f h = tt
 
-  indexed_below : (o : Option NameForm) (text : List ℕ) → IsBelow (if_indexed o text)
-  indexed_below (Some form.Plain) text = tt
-  indexed_below (Some form.Indexed) text = tt
-  indexed_below None text = tt
+  indexed_below : (o : Option NameForm) (f : Function) → IsFunBelow n (fun_of f) → IsBelow (if_indexed o f)
+  indexed_below (Some form.Plain) f h = tt
+  indexed_below (Some form.Indexed) f h = h
+  indexed_below None f h = tt
 
   live_below : (o : Option FunDeclaration) (name : ℕ) → found name signature.declarations.funs ≡ o → IsBelow (option_map declared o)
   live_below None name e = tt
@@ -48,7 +49,14 @@ module _ (n : ℕ) (signature : Signature) (below : AreFunctionsBelow n signatur
   below_or_else None b h k = k
 
   function_below : (name : ℕ) → IsBelow (function_of signature name)
-  function_below name = below_or_else _ _ (plain_below (form_of signature.theories (text_of signature name)) (text_of signature name)) (live_below (found name signature.declarations.funs) name refl)
+  function_below name =
+      below_or_else _ _ (below_or_else _ _ (plain_below (form_of signature.theories (text_of signature name)) (theory (text_of signature name)) tt)
+      (plain_below (bits_form signature.theories (text_of signature name)) (bits (text_of signature name) []) tt)) (live_below (found name signature.declarations.funs) name refl)
+
+  indexed_function_below : (name : ℕ) (is : List Tok) → IsBelow (indexed_function signature name is)
+  indexed_function_below name is =
+      below_or_else _ _ (indexed_below (form_of signature.theories (text_of signature name)) (theory (text_of signature name)) tt)
+      (indexed_below (bits_form signature.theories (text_of signature name)) (bits (text_of signature name) (map (index_of signature.texts) is)) tt)
 
   -- a function symbol with arguments that apply only functions below the bound
   module _ (at : ℕ) (args : List PlainTerm) (asked : Option Sort) (name : ℕ) (each : EachAppliesBelow n (plain_terms args)) where
@@ -61,8 +69,7 @@ module _ (n : ℕ) (signature : Signature) (below : AreFunctionsBelow n signatur
 
     indexed_head_below : (is : List Tok) (head : Applied × Sort) (before after : List ℕ) → judge_indexed_head signature at (map plain_sort args) asked name is before (well_sorted head after)
         → AppliesBelow n (apply_head head args)
-    indexed_head_below is head before after (f, between, (e, same), (i, later, one, (x, last, positive, h))) =
-        applied_below f _ head last after (subst IsBelow e (indexed_below (form_of signature.theories (text_of signature name)) (text_of signature name))) h
+    indexed_head_below is head before after (f, between, (e, same), (x, later, takes, h)) = applied_below f _ head later after (subst IsBelow e (indexed_function_below name is)) h
 
   module _ (vars : List (ℕ × Sort)) where
     symbol_below : (o : Option Sort) (at : ℕ) (args : List PlainTerm) (asked : Option Sort) (name : ℕ) (u : PlainTerm) (before after : List ℕ) → EachAppliesBelow n (plain_terms args)

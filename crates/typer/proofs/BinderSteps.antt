@@ -23,12 +23,11 @@ use Rattle.typer.specs.declared.error.TyError.TheVariants as error
 use Rattle.typer.specs.declared.typed.TypedBinding.{TypedBinding}
 use Rattle.typer.specs.declared.typed.TypedTerm.{TypedTerm}
 use Rattle.typer.specs.declared.world.World.{World}
-use Rattle.typer.specs.Answers.{Answers, Meets, note_answer}
+use Rattle.typer.specs.Answers.{Answers, Meets, fault_at, note_answer}
 use Rattle.typer.specs.FunctionSymbols.{Signature}
 use Rattle.typer.specs.TermRules.{Binding, PlainNote, annotated_term, attribute_key, attribute_value, bound_sort, judge_binding, judge_bindings, judge_name, judge_note, judge_notes, judge_quantifier, judge_term, judge_terms, let_term, plain_notes, quantified}
 use Rattle.typer.specs.Typed.{AreTypedBindings, binding_tree, bound_variable, plain_note}
 use Rattle.typer.proofs.ListSteps.{Begins, Leads, leads_on, leads_fault}
-use Rattle.typer.proofs.RankAnswers.{fault_at}
 use Rattle.typer.proofs.SymbolSteps.{trees_plain}
 use Rattle.typer.proofs.TermSteps.{meets, then_is, then_fails}
 

@@ -1,10 +1,13 @@
 -- What a symbol stands for, and what the outcome of its rank says of it.
-use Rattle.std.proofs.Common.{◌≡◌, ℕ, zero, suc, arith, Bool, true, false, if◌then◌else◌, not, IsTrue, List, [], ◌∷◌, ◌++◌, Option, Some, None, Result, Ok, Err, refl, ap, ◌∙◌, inl, inr, subst, sym, codes}
+use Rattle.std.proofs.Common.{◌≡◌, ℕ, zero, suc, arith, Bool, true, false, if◌then◌else◌, not, IsTrue, List, [], ◌∷◌, ◌++◌, map, Option, Some, None, Result, Ok, Err, refl, ap, ◌∙◌, inl, inr, subst, sym, codes}
+use Rattle.std.proofs.lemmas.Bool.{cases_Bool}
 use Rattle.std.specs.Str.{bytes_eq}
 use Rattle.std.specs.Option.{option_map}
 use Rattle.std.specs.Result.{IfErr, IfOk}
 use Rattle.sig_table.specs.declared.code.Code.TheVariants.{UnknownFunction, WrongIndex}
 use Rattle.lex_core.specs.declared.token.Tok.{Tok}
+use Rattle.sig_table.specs.declared.theories.NameForm.{NameForm}
+use Rattle.term_grammar.specs.Words.{is_numeral}
 use Rattle.sort_store.specs.Tree.{Sort, NumberedSort, tree}
 use Rattle.scope_stack.specs.declared.entry.FunEntry.{FunEntry}
 use Rattle.scope_stack.specs.Levels.{found}
@@ -14,14 +17,14 @@ use Rattle.typer.specs.declared.error.TyError.{TyError}
 use Rattle.typer.specs.declared.error.TyError.TheVariants as error
 use Rattle.typer.specs.declared.head.TypedHead.{TypedHead}
 use Rattle.typer.specs.declared.world.World.{World}
-use Rattle.typer.specs.Answers.{Answers, head_answer}
+use Rattle.typer.specs.Answers.{Answers, fault_at, head_answer}
 use Rattle.typer.specs.Declarations.{fun_declaration}
-use Rattle.typer.specs.FunctionSymbols.{Signature, Function, theory, declared, function_of, indexed_function, if_plain, if_indexed, HasRank, is_ambiguous, signature_of, text_of}
+use Rattle.typer.specs.BitVectors.{bits_form, index_of}
+use Rattle.typer.specs.FunctionSymbols.{Signature, Function, theory, bits, declared, function_of, indexed_function, if_plain, if_indexed, judge_result, signature_of, text_of}
 use Rattle.judgement.specs.Judging.{Judging}
-use Rattle.typer.specs.RankRules.{judge_rank}
 use Rattle.typer.specs.SortRules.{only_numeral}
 use Rattle.typer.specs.SortSymbols.{or_else}
-use Rattle.typer.specs.TermRules.{applied, judge_function, judge_head, judge_indexed_head}
+use Rattle.typer.specs.TermRules.{HasDivisor, TakesIndices, applied, judge_function, judge_head, judge_indexed_function, judge_indexed_head}
 use Rattle.std.specs.List.{All}
 use Rattle.sort_store.specs.Tree.{nodes, trees}
 use Rattle.sort_store.specs.Instance.{EachParamsBelow}
@@ -30,7 +33,6 @@ use Rattle.typer.specs.LiveRanks.{IsReadyEntry}
 use Rattle.typer.specs.Ready.{IsReady, IsReadySchema}
 use Rattle.typer.proofs.NameSteps.{fun_kept, params_below}
 use Rattle.typer.proofs.DeclarationsByTrees.{fun_found}
-use Rattle.typer.proofs.RankAnswers.{fault_at}
 
 abbrev pub Head : Type 0
 Head = Applied × Sort
@@ -38,7 +40,7 @@ Head = Applied × Sort
 -- the outcome of the rank, with the symbol put in
 module _ (signature : Signature) (f : Function) (at : ℕ) (args : List Sort) (asked : Option Sort) (name : ℕ) (indices : List ℕ) where
   abbrev Rank : Result Sort TyError → Type 0
-  Rank r = Answers r (judge_rank (HasRank signature.theories f args) (is_ambiguous f) at asked)
+  Rank r = Answers r (judge_result signature.theories f at args asked)
 
   pub with_symbol : (t : Sort) (h : Head) → Rank (Ok t) → h ≡ (applied f name indices, t) → Answers (Ok h) (judge_function signature f at args asked name indices)
   with_symbol t h k e before = (t, before, k before, (e, refl))
@@ -47,6 +49,18 @@ module _ (signature : Signature) (f : Function) (at : ℕ) (args : List Sort) (a
   without_symbol (error.Fault place) k = λ before. inl (k before)
   without_symbol error.NoMemory k = tt
 
+-- what the code's test of a form says of the text that has it
+module _ (if_written : Option NameForm → Function → Option Function) (forms : List ℕ → Option NameForm) (text its : List ℕ) (same : text ≡ its) (o : Option NameForm) (stands : o ≡ forms text)
+    (b : Bool) (tells : (f : Function) → (if b then Some f else None) ≡ if_written o f) where
+  written : (f : Function) → if_written (forms its) f ≡ (if b then Some f else None)
+  written f = ap (λ z. if_written (forms z) f) (sym same) ∙ ap (λ z. if_written z f) (sym stands) ∙ sym (tells f)
+
+  pub is_written : (f : Function) → b ≡ true → if_written (forms its) f ≡ Some f
+  is_written f t = written f ∙ ap (λ z. if z then Some f else None) t
+
+  pub not_written : (f : Function) → b ≡ false → if_written (forms its) f ≡ None
+  not_written f t = written f ∙ ap (λ z. if z then Some f else None) t
+
 module _ (world : World) (name : ℕ) where
   abbrev S : Signature
   S = signature_of world
@@ -54,28 +68,26 @@ module _ (world : World) (name : ℕ) where
   abbrev of_scopes : Option Function
   of_scopes = option_map declared (found name S.declarations.funs)
 
-  -- the text as the code has it, and what the code's tests say of it
-  module _ (text : List ℕ) (same : text ≡ text_of S name) (b : Bool) where
-    module _ (plain : (if b then Some (theory text) else None) ≡ if_plain (form_of S.theories text) text) where
-      plain_is : if_plain (form_of S.theories (text_of S name)) (text_of S name) ≡ (if b then Some (theory text) else None)
-      plain_is = ap (λ z. if_plain (form_of S.theories z) z) (sym same) ∙ sym plain
+  abbrev text : List ℕ
+  text = text_of S name
 
-      pub theory_means : b ≡ true → function_of S name ≡ Some (theory text)
-      theory_means t = ap (λ o. or_else o of_scopes) (plain_is ∙ ap (λ z. if z then Some (theory text) else None) t)
+  -- the symbol by the two tests of its form
+  abbrev plain_theory : Option Function
+  plain_theory = if_plain (form_of S.theories text) (theory text)
 
-      pub live_means : (o : Option FunEntry) → b ≡ false → found name world.scopes.funs ≡ o → function_of S name ≡ option_map declared (option_map fun_declaration o)
-      live_means o t f = ap (λ o. or_else o of_scopes) (plain_is ∙ ap (λ z. if z then Some (theory text) else None) t)
-          ∙ ap (option_map declared) (fun_found name world.scopes ∙ ap (option_map fun_declaration) f)
+  abbrev plain_bits : Option Function
+  plain_bits = if_plain (bits_form S.theories text) (bits text [])
 
-    module _ (with_indices : (if b then Some (theory text) else None) ≡ if_indexed (form_of S.theories text) text) where
-      indexed_is : indexed_function S name ≡ (if b then Some (theory text) else None)
-      indexed_is = ap (λ z. if_indexed (form_of S.theories z) z) (sym same) ∙ sym with_indices
+  pub theory_means : plain_theory ≡ Some (theory text) → function_of S name ≡ Some (theory text)
+  theory_means e = ap (λ o. or_else (or_else o plain_bits) of_scopes) e
 
-      pub indexed_means : b ≡ true → indexed_function S name ≡ Some (theory text)
-      indexed_means t = indexed_is ∙ ap (λ z. if z then Some (theory text) else None) t
+  pub bits_means : plain_theory ≡ None → plain_bits ≡ Some (bits text []) → function_of S name ≡ Some (bits text [])
+  bits_means e g = ap (λ o. or_else (or_else o plain_bits) of_scopes) e ∙ ap (λ o. or_else o of_scopes) g
 
-      pub indexed_unknown_name : b ≡ false → indexed_function S name ≡ None
-      indexed_unknown_name t = indexed_is ∙ ap (λ z. if z then Some (theory text) else None) t
+  pub live_means : (o : Option FunEntry) → plain_theory ≡ None → plain_bits ≡ None → found name world.scopes.funs ≡ o → function_of S name ≡ option_map declared (option_map fun_declaration o)
+  live_means o e g f =
+      ap (λ o. or_else (or_else o plain_bits) of_scopes) e ∙ ap (λ o. or_else o of_scopes) g
+      ∙ ap (option_map declared) (fun_found name world.scopes ∙ ap (option_map fun_declaration) f)
 
   module _ (at : ℕ) (args : List Sort) (asked : Option Sort) where
     pub symbol_step : (f : Function) (r : Result Head TyError) → function_of S name ≡ Some f → Answers r (judge_function S f at args asked name []) → Answers r (judge_head S at args asked name)
@@ -90,39 +102,71 @@ module _ (world : World) (name : ℕ) where
         never f g = cc
 
     module _ (is : List Tok) where
-      pub indexed_unknown : (e : TyError) → indexed_function S name ≡ None → e ≡ fault_at UnknownFunction at → Answers {A = Head} (Err e) (judge_indexed_head S at args asked name is)
-      indexed_unknown e n same = subst (λ z. Answers {A = Head} (Err z) (judge_indexed_head S at args asked name is)) (sym same) (λ before. inl (never, refl))
-        where
-          never : (f : Function) → indexed_function S name ≡ Some f → ⊥
-          never f g = cc
+      -- the symbol with indices
+      abbrev indexed_theory : Option Function
+      indexed_theory = if_indexed (form_of S.theories text) (theory text)
 
-      pub no_index : (f : Function) (e : TyError) → indexed_function S name ≡ Some f → only_numeral is ≡ None → e ≡ fault_at WrongIndex at → Answers {A = Head} (Err e) (judge_indexed_head S at args asked name is)
-      no_index f e g n same = subst (λ z. Answers {A = Head} (Err z) (judge_indexed_head S at args asked name is)) (sym same) (λ before. inr (f, before, (g, refl), inl (never, refl)))
-        where
-          never : (i : Tok) → only_numeral is ≡ Some i → ⊥
-          never i g = cc
+      abbrev on_bits : Function
+      on_bits = bits text (map (index_of S.texts) is)
 
-      pub zero_index : (f : Function) (i : Tok) (e : TyError) → indexed_function S name ≡ Some f → only_numeral is ≡ Some i → bytes_eq (text_of S i.name) (codes "0") ≡ true → e ≡ fault_at WrongIndex at
-          → Answers {A = Head} (Err e) (judge_indexed_head S at args asked name is)
-      zero_index f i e g n is_zero same = subst (λ z. Answers {A = Head} (Err z) (judge_indexed_head S at args asked name is)) (sym same)
-          (λ before. inr (f, before, (g, refl), inr (i, before, (n, refl), inl (by (bytes_eq (text_of S i.name) (codes "0")) is_zero, refl))))
-        where
-          by : (b : Bool) → b ≡ true → IsTrue (not b) → ⊥
-          by true e h = cc
-          by false e h = cc
+      abbrev indexed_bits : Option Function
+      indexed_bits = if_indexed (bits_form S.theories text) on_bits
 
-      pub indexed_step : (f : Function) (i : Tok) (r : Result Head TyError) → indexed_function S name ≡ Some f → only_numeral is ≡ Some i → bytes_eq (text_of S i.name) (codes "0") ≡ false
-          → Answers r (judge_function S f at args asked name (i.name ∷ [])) → Answers r (judge_indexed_head S at args asked name is)
-      indexed_step f i r g n is_zero h = by r h
-        where
-          not_zero : (b : Bool) → b ≡ false → IsTrue (not b)
-          not_zero true e = sym e
-          not_zero false e = refl
+      pub indexed_step : (f : Function) (r : Result Head TyError) → indexed_function S name is ≡ Some f → Answers r (judge_indexed_function S f at args asked name is) → Answers r (judge_indexed_head S at args asked name is)
+      indexed_step f (Ok t) e h = λ before. (f, before, (e, refl), h before)
+      indexed_step f (Err (error.Fault place)) e h = λ before. inr (f, before, (e, refl), h before)
+      indexed_step f (Err error.NoMemory) e h = tt
 
-          by : (r : Result Head TyError) → Answers r (judge_function S f at args asked name (i.name ∷ [])) → Answers r (judge_indexed_head S at args asked name is)
-          by (Ok t) h = λ before. (f, before, (g, refl), (i, before, (n, refl), (tt, before, (not_zero _ is_zero, refl), h before)))
-          by (Err (error.Fault place)) h = λ before. inr (f, before, (g, refl), inr (i, before, (n, refl), inr (tt, before, (not_zero _ is_zero, refl), h before)))
-          by (Err error.NoMemory) h = tt
+      pub indexed_unknown : (e : TyError) → indexed_theory ≡ None → indexed_bits ≡ None → e ≡ fault_at UnknownFunction at → Answers {A = Head} (Err e) (judge_indexed_head S at args asked name is)
+      indexed_unknown e n m same = subst (λ z. Answers {A = Head} (Err z) (judge_indexed_head S at args asked name is)) (sym same) (λ before. inl (never, refl))
+        where
+          never : (f : Function) → indexed_function S name is ≡ Some f → ⊥
+          never f g = let none : indexed_function S name is ≡ None = ap (λ o. or_else o indexed_bits) n ∙ m in cc
+
+      pub indexed_theory_means : indexed_theory ≡ Some (theory text) → indexed_function S name is ≡ Some (theory text)
+      indexed_theory_means e = ap (λ o. or_else o indexed_bits) e
+
+      pub indexed_bits_means : indexed_theory ≡ None → indexed_bits ≡ Some on_bits → indexed_function S name is ≡ Some on_bits
+      indexed_bits_means e g = ap (λ o. or_else o indexed_bits) e ∙ g
+
+      pub wrong_indices : (f : Function) (e : TyError) → (TakesIndices S f is → ⊥) → e ≡ fault_at WrongIndex at → Answers {A = Head} (Err e) (judge_indexed_function S f at args asked name is)
+      wrong_indices f e wrong same = subst (λ z. Answers {A = Head} (Err z) (judge_indexed_function S f at args asked name is)) (sym same) (λ before. inl (wrong, refl))
+
+      pub takes_indices : (f : Function) (r : Result Head TyError) → TakesIndices S f is → Answers r (judge_function S f at args asked name (map (λ i. i.name) is)) → Answers r (judge_indexed_function S f at args asked name is)
+      takes_indices f (Ok t) takes h = λ before. (tt, before, (takes, refl), h before)
+      takes_indices f (Err (error.Fault place)) takes h = λ before. inr (tt, before, (takes, refl), h before)
+      takes_indices f (Err error.NoMemory) takes h = tt
+
+-- the index of `divisible`
+pub alone_is : (is : List Tok) (i : Tok) → only_numeral is ≡ Some i → is ≡ i ∷ []
+alone_is [] i e = cc
+alone_is (t ∷ []) i e = elim (cases_Bool (is_numeral t)) [
+  | inl n ↦ (let same : Some t ≡ Some i = sym (ap (λ b. if b then Some t else None) n) ∙ e in let stands : t ≡ i = cc in ap (λ z. z ∷ []) stands)
+  | inr n ↦ (let none : None ≡ Some i = sym (ap (λ b. if b then Some t else None) n) ∙ e in cc)
+]
+alone_is (t ∷ (u ∷ us)) i e = cc
+
+module _ (signature : Signature) (is : List Tok) where
+  pub no_divisor : only_numeral is ≡ None → HasDivisor signature is → ⊥
+  no_divisor n h = let e = h.alone in cc
+
+  module _ (i : Tok) (alone : only_numeral is ≡ Some i) where
+    pub zero_divisor : bytes_eq (text_of signature i.name) (codes "0") ≡ true → HasDivisor signature is → ⊥
+    zero_divisor z h =
+        let e = h.alone in
+        let same : h.divisor ≡ i = cc in
+        refuted _ (ap (λ (t : Tok). bytes_eq (text_of signature t.name) (codes "0")) same ∙ z) h.not_zero
+      where
+        refuted : (b : Bool) → b ≡ true → IsTrue (not b) → ⊥
+        refuted true e h = cc
+        refuted false e h = cc
+
+    pub divisor : bytes_eq (text_of signature i.name) (codes "0") ≡ false → HasDivisor signature is
+    divisor z = record { divisor = i; alone = alone; not_zero = by _ z }
+      where
+        by : (b : Bool) → b ≡ false → IsTrue (not b)
+        by true e = sym e
+        by false e = refl
 
 -- a head as the code makes it
 pub head_made : (h : TypedHead) (f : Function) (name : ℕ) (indices : List ℕ) (s : NumberedSort) → h.applied ≡ applied f name indices → h.sort ≡ s → ◌≡◌ {A = Head} (h.applied, tree h.sort) (applied f name indices, tree s)
@@ -143,11 +187,11 @@ schemas_below texts store params (r ∷ rs) h = (params_below texts params (tree
 pub entry_ready : (world : World) (name : ℕ) (f : FunEntry) → IsReady world → found name world.scopes.funs ≡ Some f → IsReadyEntry world.sorts f
 entry_ready world name f ready e = (fun_kept world name f ready e).entry
 
--- a symbol with its index
-pub index_head : (r : Result TypedHead TyError) (symbol : TypedHead) (f : Function) (name index : ℕ) (s : NumberedSort) (signature : Signature) (at : ℕ) (args : List Sort) (asked : Option Sort)
-    → IfOk r (λ h. h.applied ≡ record symbol.applied { indices = symbol.applied.indices ++ index ∷ [] }) → IfOk r (λ h. h.sort ≡ symbol.sort) → IfErr r (λ e. e ≡ error.NoMemory) → symbol.applied ≡ applied f name [] → symbol.sort ≡ s
-    → Answers (Ok (tree s)) (judge_rank (HasRank signature.theories f args) (is_ambiguous f) at asked) → Answers (head_answer r) (judge_function signature f at args asked name (index ∷ []))
-index_head (Ok h) symbol f name index s signature at args asked e g err made same k =
-    with_symbol signature f at args asked name (index ∷ []) (tree s) (h.applied, tree h.sort) k
-    (head_made h f name (index ∷ []) s (e ∙ ap (λ (z : Applied). record z { indices = z.indices ++ index ∷ [] }) made) (g ∙ same))
-index_head (Err e) symbol f name index s signature at args asked ok g same made sort k = subst (λ z. Answers {A = Head} (Err z) (judge_function signature f at args asked name (index ∷ []))) (sym same) tt
+-- a symbol with its indices
+pub index_head : (r : Result TypedHead TyError) (symbol : TypedHead) (f : Function) (name : ℕ) (is : List Tok) (s : NumberedSort) (signature : Signature) (at : ℕ) (args : List Sort) (asked : Option Sort)
+    → IfOk r (λ h. h.applied ≡ record symbol.applied { indices = symbol.applied.indices ++ map (λ (i : Tok). i.name) is }) → IfOk r (λ h. h.sort ≡ symbol.sort) → IfErr r (λ e. e ≡ error.NoMemory) → symbol.applied ≡ applied f name []
+    → symbol.sort ≡ s → Answers (Ok (tree s)) (judge_result signature.theories f at args asked) → Answers (head_answer r) (judge_function signature f at args asked name (map (λ i. i.name) is))
+index_head (Ok h) symbol f name is s signature at args asked e g err made same k =
+    with_symbol signature f at args asked name (map (λ i. i.name) is) (tree s) (h.applied, tree h.sort) k
+    (head_made h f name (map (λ i. i.name) is) s (e ∙ ap (λ (z : Applied). record z { indices = z.indices ++ map (λ (i : Tok). i.name) is }) made) (g ∙ same))
+index_head (Err e) symbol f name is s signature at args asked ok g same made sort k = subst (λ z. Answers {A = Head} (Err z) (judge_function signature f at args asked name (map (λ i. i.name) is))) (sym same) tt

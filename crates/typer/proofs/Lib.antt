@@ -17,6 +17,10 @@ pub mod RankAnswers
 pub mod ListSteps
 pub mod LiveRankSteps
 pub mod TheoryRankSteps
+pub mod IndexLists
+pub mod BitsRanks
+pub mod BitsSteps
+pub mod LiteralSteps
 pub mod BoundNames
 pub mod HeadSteps
 pub mod TermSteps
@@ -36,6 +40,7 @@ pub mod CoreNames
 pub mod RankTables
 pub mod TheorySorts
 pub mod SoundTheories
+pub mod SoundBits
 pub mod SoundApplications
 pub mod DistinctNames
 pub mod SoundBinders

@@ -64,7 +64,7 @@ module _ (signature : Signature) where
 
   mutual
     pub names_given : (raw : syntax.Term) (vars : List (ℕ × Sort)) (u : PlainTerm) (before after : List ℕ) → judge_term signature vars raw before (well_sorted u after) → From before (names_in u) after
-    names_given (constant t) vars u before after (s, between, h, (made, same)) = subst (λ z. From before (names_in z) after) (sym made) (same ∙ h.1)
+    names_given (constant t) vars u before after (s, between, (r, later, h, (x, last, narrow, (sort_made, stays))), (made, same)) = subst (λ z. From before (names_in z) after) (sym made) (same ∙ stays ∙ narrow.1 ∙ h.1)
     names_given (qualified_term q) vars u before after (asked, between, h, k) =
         application_given vars (identifier_of q) (qualified_at q) [] asked u before between after (none-asked signature vars q before (well_sorted asked between) h).0 k
     names_given (application at q ts) vars u before after (asked, between, h, (args, later, k, l)) =

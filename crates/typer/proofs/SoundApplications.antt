@@ -12,14 +12,16 @@ use Rattle.term_store.specs.Term.{PlainTerm, term, plain_sort, plain_terms}
 use Rattle.term_store.specs.Declarations.{Declaration}
 use Rattle.term_store.specs.SoundTerms.{Bound, IsSoundSort, IsSoundTerm, AreSoundTerms, IsSoundApplication, plain_sorts}
 use Rattle.theory_core.specs.TheorySymbols.{form_of}
+use Rattle.typer.specs.BitVectors.{bits_form, index_of}
 use Rattle.typer.specs.Declarations.{FunDeclaration}
-use Rattle.typer.specs.FunctionSymbols.{Signature, Function, theory, declared, function_of, if_plain, if_indexed, text_of, HasRank, is_ambiguous}
+use Rattle.typer.specs.FunctionSymbols.{Signature, Function, theory, bits, declared, function_of, indexed_function, if_plain, if_indexed, text_of, HasRank, is_ambiguous}
 use Rattle.typer.specs.SortSymbols.{or_else}
 use Rattle.typer.specs.TermRules.{fun_of, judge_function, judge_head, judge_indexed_head, apply_head}
 use Rattle.typer.specs.Soundness.{IsSoundFunction, IsSoundSignature}
 use Rattle.typer.proofs.NameSteps.{lookup_all}
+use Rattle.typer.proofs.SoundBits.{bits_applies, bits_result_sound}
 use Rattle.typer.proofs.SoundInstances.{AreSound}
-use Rattle.typer.proofs.SoundRanks.{ranked, live_result_sound, live_applies}
+use Rattle.typer.proofs.SoundRanks.{result_ranked, live_result_sound, live_applies}
 use Rattle.typer.proofs.SoundTheories.{theory_result_sound, theory_applies}
 
 sorts_of : (us : List PlainTerm) → plain_sorts (plain_terms us) ≡ map plain_sort us
@@ -38,21 +40,22 @@ module _ (script : List Declaration) (signature : Signature) (sound : IsSoundSig
   -- the name is that of the function symbol, which is sound
   abbrev Names : ℕ → Function → Type 0
   Names name (theory text) = text ≡ text_of signature name
+  Names name (bits text is) = text ≡ text_of signature name
   Names name (declared f) = IsSoundFunction script f
 
   abbrev NamesOption : ℕ → Option Function → Type 0
   NamesOption name None = Unit {0}
   NamesOption name (Some f) = Names name f
 
-  plain_named : (o : Option NameForm) (name : ℕ) → NamesOption name (if_plain o (text_of signature name))
-  plain_named (Some form.Plain) name = refl
-  plain_named (Some form.Indexed) name = tt
-  plain_named None name = tt
+  plain_named : (o : Option NameForm) (name : ℕ) (f : Function) → Names name f → NamesOption name (if_plain o f)
+  plain_named (Some form.Plain) name f h = h
+  plain_named (Some form.Indexed) name f h = tt
+  plain_named None name f h = tt
 
-  indexed_named : (o : Option NameForm) (name : ℕ) → NamesOption name (if_indexed o (text_of signature name))
-  indexed_named (Some form.Plain) name = tt
-  indexed_named (Some form.Indexed) name = refl
-  indexed_named None name = tt
+  indexed_named : (o : Option NameForm) (name : ℕ) (f : Function) → Names name f → NamesOption name (if_indexed o f)
+  indexed_named (Some form.Plain) name f h = tt
+  indexed_named (Some form.Indexed) name f h = h
+  indexed_named None name f h = tt
 
   live_named : (o : Option FunDeclaration) (name : ℕ) → found name signature.declarations.funs ≡ o → NamesOption name (option_map declared o)
   live_named None name e = tt
@@ -63,13 +66,21 @@ module _ (script : List Declaration) (signature : Signature) (sound : IsSoundSig
   named_or_else name None b h k = k
 
   function_named : (name : ℕ) → NamesOption name (function_of signature name)
-  function_named name = named_or_else name _ _ (plain_named (form_of signature.theories (text_of signature name)) name) (live_named (found name signature.declarations.funs) name refl)
+  function_named name =
+      named_or_else name _ _ (named_or_else name _ _ (plain_named (form_of signature.theories (text_of signature name)) name (theory (text_of signature name)) refl)
+      (plain_named (bits_form signature.theories (text_of signature name)) name (bits (text_of signature name) []) refl)) (live_named (found name signature.declarations.funs) name refl)
+
+  indexed_function_named : (name : ℕ) (is : List Tok) → NamesOption name (indexed_function signature name is)
+  indexed_function_named name is =
+      named_or_else name _ _ (indexed_named (form_of signature.theories (text_of signature name)) name (theory (text_of signature name)) refl)
+      (indexed_named (bits_form signature.theories (text_of signature name)) name (bits (text_of signature name) (map (index_of signature.texts) is)) refl)
 
   -- the result sort and the application, by the rank
   ranked_sound : (f : Function) (name : ℕ) (args : List Sort) (t : Sort) (asked : Option Sort) → Names name f → AreSound script 0 args → IfSome asked (IsSoundSort script 0)
       → HasRank signature.theories f args t → (asked ≡ Some t) ⊎ (is_ambiguous f ≡ false) → IsSoundSort script 0 t × IsSoundApplication script (fun_of f) name args t
   ranked_sound (theory text) name args t asked named a s rank told =
       (theory_result_sound script 0 signature.theories text args t a rank, theory_applies signature.texts sound.table name args t text named signature.theories rank)
+  ranked_sound (bits text is) name args t asked named a s rank told = (bits_result_sound text is args t script 0 rank, bits_applies text is args t signature.texts sound.table name named rank)
   ranked_sound (declared f) name args t asked named a s rank told = (by told, live_applies script f args t named rank)
     where
       by : (asked ≡ Some t) ⊎ (is_ambiguous (declared f) ≡ false) → IsSoundSort script 0 t
@@ -80,7 +91,7 @@ module _ (script : List Declaration) (signature : Signature) (sound : IsSoundSig
     function_sound : (f : Function) (indices : List ℕ) (head : Applied × Sort) (before after : List ℕ) → Names name f
         → judge_function signature f at (map plain_sort args) asked name indices before (well_sorted head after) → IsSoundTerm script outer (apply_head head args)
     function_sound f indices head before after named (t, between, rank, (made, same)) =
-        let k = ranked (HasRank signature.theories f (map plain_sort args)) (is_ambiguous f) at asked t before between rank in
+        let k = result_ranked signature.theories f at (map plain_sort args) asked t before between rank in
         let h = ranked_sound f name (map plain_sort args) t asked named (sorts_sound script outer args a) s k.0 k.1 in
         subst (λ (z : Applied × Sort). IsSoundTerm script outer (apply_head z args)) (sym made) (h.0, (a, subst (λ ss. IsSoundApplication script (fun_of f) name ss t) (sym (sorts_of args)) h.1))
 
@@ -89,5 +100,4 @@ module _ (script : List Declaration) (signature : Signature) (sound : IsSoundSig
 
     pub indexed_head_sound : (is : List Tok) (head : Applied × Sort) (before after : List ℕ) → judge_indexed_head signature at (map plain_sort args) asked name is before (well_sorted head after)
         → IsSoundTerm script outer (apply_head head args)
-    indexed_head_sound is head before after (f, between, (e, same), (i, later, one, (x, last, positive, h))) =
-        function_sound f (i.name ∷ []) head last after (subst (NamesOption name) e (indexed_named (form_of signature.theories (text_of signature name)) name)) h
+    indexed_head_sound is head before after (f, between, (e, same), (x, later, takes, h)) = function_sound f (map (λ i. i.name) is) head later after (subst (NamesOption name) e (indexed_function_named name is)) h

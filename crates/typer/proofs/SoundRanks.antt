@@ -1,6 +1,7 @@
 -- What the rule on ranks tells of a result sort, and the soundness of the result sort of a live function symbol.
 use Rattle.std.proofs.Common.{◌≡◌, ℕ, ◌<◌, Bool, false, List, length, get_or, Option, Some, None, ◌⊎◌, inl, inr, ap, sym, ◌∙◌, arith, subst}
 use Rattle.std.proofs.lemmas.List.{get_or_default}
+use Rattle.sig_table.specs.declared.theories.Theories.{Theories}
 use Rattle.judgement.specs.Judging.{well_sorted}
 use Rattle.sort_store.specs.declared.head.Head.{Head}
 use Rattle.sort_store.specs.Tree.{Sort, sort, SortList, no_sorts, more_sorts, sorts}
@@ -9,6 +10,8 @@ use Rattle.sort_store.specs.Binding.{ParamAt, ParamIn, ParamInEach}
 use Rattle.term_store.specs.Declarations.{Declaration}
 use Rattle.term_store.specs.SoundTerms.{IsSoundSort, AreSoundSorts, AppliesDeclared, HasRankAt}
 use Rattle.typer.specs.Declarations.{FunDeclaration}
+use Rattle.typer.specs.BitVectors.{HasBitsRank}
+use Rattle.typer.specs.FunctionSymbols.{Function, theory, bits, declared, HasRank, is_ambiguous as is_ambiguous_function, judge_result}
 use Rattle.typer.specs.LiveRanks.{HasInstance, is_ambiguous}
 use Rattle.typer.specs.RankRules.{judge_rank}
 use Rattle.typer.specs.Soundness.{IsSoundFunction}
@@ -21,6 +24,13 @@ pub ranked : (rank : Sort → Type 0) (ambiguous : Bool) (at : ℕ) (asked : Opt
     → rank t × ((asked ≡ Some t) ⊎ (ambiguous ≡ false))
 ranked rank ambiguous at None t before after (x, b, some, (y, c, clear, (result, d, found, (z, e, small, (made, same))))) = (subst rank (sym made) found.0, inr clear.0)
 ranked rank ambiguous at (Some s) t before after (x, b, some, (y, c, has, (made, same))) = (subst rank (sym made) has.0, inl (ap Some (sym made)))
+
+-- .. of each kind of function symbol
+pub result_ranked : (theories : Theories) (f : Function) (at : ℕ) (args : List Sort) (asked : Option Sort) (t : Sort) (before after : List ℕ) → judge_result theories f at args asked before (well_sorted t after)
+    → HasRank theories f args t × ((asked ≡ Some t) ⊎ (is_ambiguous_function f ≡ false))
+result_ranked theories (theory text) at args asked t before after h = ranked (HasRank theories (theory text) args) false at asked t before after h
+result_ranked theories (bits text is) at args asked t before after (x, between, good, (y, later, narrow, h)) = ranked (HasBitsRank text is args) false at asked t later after h
+result_ranked theories (declared f) at args asked t before after h = ranked (HasInstance f args) (is_ambiguous f) at asked t before after h
 
 module _ (script : List Declaration) (params : ℕ) where
   -- where a parameter stands in a schema with a sound instance its value is sound

@@ -1,6 +1,9 @@
 -- What a raw term is well sorted with is sound where the signature and the variables are.
-use Rattle.std.proofs.Common.{◌≡◌, ℕ, ◌==◌, Bool, true, false, if◌then◌else◌, List, [], ◌∷◌, ◌++◌, map, Option, Some, None, refl, sym, subst, ◌∙◌}
+use Rattle.std.proofs.Common.{◌≡◌, ℕ, ◌-◌, ◌*◌, ◌==◌, Bool, true, false, if◌then◌else◌, List, [], ◌∷◌, ◌++◌, length, map, Option, Some, None, refl, sym, subst, ◌∙◌}
 use Rattle.std.specs.Option.{IfSome}
+use Rattle.sig_table.specs.declared.theories.Theories.{Theories}
+use Rattle.lex_core.specs.declared.token.TokKind.{TokKind}
+use Rattle.lex_core.specs.declared.token.TokKind.TheVariants as kind
 use Rattle.judgement.specs.Judging.{well_sorted}
 use Rattle.term_grammar.specs.Syntax as syntax
 use Rattle.term_grammar.specs.Syntax.{Identifier, symbol, indexed, Qualified, unqualified, qualified, qualified_at, constant, qualified_term, application, let_in, for_all, there_exists, match_with, annotated, term_at, Terms, no_terms, with_term, Bindings, no_bindings, with_binding, Notes, no_notes, with_note, Note, named_note, pattern_note, attribute_note}
@@ -9,9 +12,10 @@ use Rattle.term_store.specs.Term.{PlainTerm, plain_terms}
 use Rattle.term_store.specs.Declarations.{Declaration}
 use Rattle.term_store.specs.SoundTerms.{Bound, bound_also, IsSoundSort, IsTheorySort, AreSoundVars, IsSoundTerm, AreSoundTerms, AreSoundNotes, IsSoundNote}
 use Rattle.theory_core.specs.IntsRanks.{int}
-use Rattle.typer.specs.FunctionSymbols.{Signature}
+use Rattle.typer.specs.BitVectors.{bit_vector}
+use Rattle.typer.specs.FunctionSymbols.{Signature, text_of}
 use Rattle.typer.specs.SortSymbols.{or_else}
-use Rattle.typer.specs.TermRules.{Binding, PlainNote, bound, bound_sort, identifier_of, judge_symbol, judge_application, judge_asked, judge_bindings, judge_note, judge_notes, judge_term, judge_terms, judge_variables, plain_notes}
+use Rattle.typer.specs.TermRules.{Binding, PlainNote, bound, bound_sort, identifier_of, literal_sort, judge_symbol, judge_application, judge_asked, judge_bindings, judge_note, judge_notes, judge_term, judge_terms, judge_variables, plain_notes}
 use Rattle.typer.specs.Soundness.{IsSoundSignature}
 use Rattle.typer.proofs.SoundSorts.{sound_sort}
 use Rattle.typer.proofs.SoundVariables.{same_bound}
@@ -34,9 +38,25 @@ module _ (script : List Declaration) where
   bound_sound [] name h = tt
   bound_sound (v ∷ vars) name h = sound_or_else (bound vars name) _ (bound_sound vars name h.1) (sound_if (v.0 == name) v.1 h.0)
 
-  literal_sound : (b : Bool) (s : Sort) → (if b then Some int else None) ≡ Some s → IsSoundSort script 0 s × IsTheorySort s
-  literal_sound true s e = let same : int ≡ s = cc in subst (λ z. IsSoundSort script 0 z × IsTheorySort z) same ((tt, tt), tt)
-  literal_sound false s e = cc
+  -- each literal has a sort of a theory
+  abbrev IsSoundLiteral : Sort → Type 0
+  IsSoundLiteral s = IsSoundSort script 0 s × IsTheorySort s
+
+  literal_of : (b : Bool) (t s : Sort) → IsSoundLiteral t → (if b then Some t else None) ≡ Some s → IsSoundLiteral s
+  literal_of true t s h e = let same : t ≡ s = cc in subst IsSoundLiteral same h
+  literal_of false t s h e = cc
+
+  literal_sound : (theories : Theories) (text : List ℕ) (k : TokKind) (s : Sort) → literal_sort theories text k ≡ Some s → IsSoundLiteral s
+  literal_sound theories text kind.Numeral s e = literal_of theories.ints int s ((tt, tt), tt) e
+  literal_sound theories text kind.Binary s e = literal_of theories.bits (bit_vector (length text - 2)) s ((tt, tt), tt) e
+  literal_sound theories text kind.Hexadecimal s e = literal_of theories.bits (bit_vector (4 * (length text - 2))) s ((tt, tt), tt) e
+  literal_sound theories text kind.Open s e = cc
+  literal_sound theories text kind.Close s e = cc
+  literal_sound theories text kind.Decimal s e = cc
+  literal_sound theories text kind.Str s e = cc
+  literal_sound theories text kind.Symbol s e = cc
+  literal_sound theories text kind.Reserved s e = cc
+  literal_sound theories text kind.Keyword s e = cc
 
 module _ (script : List Declaration) (signature : Signature) (vars : List (ℕ × Sort)) (sound : IsSoundSignature script signature) (sound_vars : AreSoundVars script vars) where
   abbrev outer : Bound
@@ -64,7 +84,8 @@ module _ (script : List Declaration) (signature : Signature) (vars : List (ℕ �
 module _ (script : List Declaration) (signature : Signature) (sound : IsSoundSignature script signature) where
   mutual
     pub sound_term : (raw : syntax.Term) (vars : List (ℕ × Sort)) → AreSoundVars script vars → (u : PlainTerm) (before after : List ℕ) → judge_term signature vars raw before (well_sorted u after) → IsSoundTerm script (bound_also vars []) u
-    sound_term (constant t) vars given u before after (s, between, (e, f), (made, same)) = subst (IsSoundTerm script (bound_also vars [])) (sym made) (literal_sound script _ s e)
+    sound_term (constant t) vars given u before after (s, between, (r, later, (e, f), (x, last, narrow, (sort_made, stays))), (made, same)) =
+        subst (IsSoundTerm script (bound_also vars [])) (sym made) (subst (IsSoundLiteral script) (sym sort_made) (literal_sound script signature.theories (text_of signature t.name) t.kind r e))
     sound_term (qualified_term q) vars given u before after (asked, between, h, k) =
         application_sound script signature vars sound given (identifier_of q) (qualified_at q) [] asked u between after tt (asked_sound script signature vars sound given q asked before between h) k
     sound_term (application at q ts) vars given u before after (asked, between, h, (args, later, k, l)) =

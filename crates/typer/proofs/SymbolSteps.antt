@@ -21,12 +21,11 @@ use Rattle.typer.specs.declared.head.TypedHead.{TypedHead}
 use Rattle.typer.specs.declared.typed.TypedTerm.{TypedTerm}
 use Rattle.typer.specs.declared.typed.TypedTerms.{TypedTerms}
 use Rattle.typer.specs.declared.world.World.{World}
-use Rattle.typer.specs.Answers.{Answers, Meets, head_answer, typed_answer}
+use Rattle.typer.specs.Answers.{Answers, Meets, fault_at, head_answer, typed_answer}
 use Rattle.typer.specs.FunctionSymbols.{Signature, signature_of}
 use Rattle.typer.specs.SortSymbols.{or_else}
 use Rattle.typer.specs.TermRules.{apply_head, bound, identifier_of, judge_application, judge_asked, judge_head, judge_indexed_head, judge_indexed_symbol, judge_symbol, judge_term, judge_terms, judge_variable}
 use Rattle.typer.specs.Typed.{AreBound, HasElaborated}
-use Rattle.typer.proofs.RankAnswers.{fault_at}
 use Rattle.typer.proofs.TermSteps.{first_is, first_fails, meets, then_is, then_fails}
 use Rattle.typer.proofs.TypedSteps.{elaborated_signature}
 

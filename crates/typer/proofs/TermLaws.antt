@@ -1,12 +1,14 @@
 -- Each term has exactly one outcome. The symbols of a term and the sorts of its variables declare no name.
-use Rattle.std.proofs.Common.{◌≡◌, ℕ, ◌≤◌, ◌==◌, Bool, true, false, not, List, [], ◌∷◌, ◌++◌, codes, map, Option, Some, None, ◌⊎◌, inl, inr, refl}
+use Rattle.std.proofs.Common.{◌≡◌, ℕ, ◌≤◌, ◌==◌, Bool, true, false, List, [], ◌∷◌, ◌++◌, codes, map, Option, Some, None, ◌⊎◌, inl, inr, refl, unwrap_or}
+use Rattle.std.proofs.lemmas.Bool.{cases_Bool}
 use Rattle.std.specs.List.{list_any}
 use Rattle.std.specs.Str.{bytes_eq}
 use Rattle.lex_core.specs.declared.place.Place.{Place}
 use Rattle.lex_core.specs.declared.token.Tok.{Tok}
-use Rattle.sig_table.specs.declared.code.Code.TheVariants.{NoRank, AmbiguousConstructor, WrongNamedTerm, WrongQualifiedSort, WrongTermSort, SortTooLarge}
+use Rattle.sig_table.specs.declared.theories.Theories.{Theories}
+use Rattle.sig_table.specs.declared.code.Code.TheVariants.{NoRank, NumberTooLarge, WrongIndex, AmbiguousConstructor, WrongNamedTerm, WrongQualifiedSort, WrongTermSort, SortTooLarge}
 use Rattle.judgement.specs.Judging.{Judging, Lawful, DeclaresNone, check, declare, done, find, names, ◌>>=◌}
-use Rattle.judgement.proofs.JudgementLaws.{lawful-done, lawful-check, lawful-declare, lawful-find, lawful-names, lawful-refuse, lawful-then, lawful-then_given, option_decided, test_decided, value_once, value_or_fault, never_both, fault_once}
+use Rattle.judgement.proofs.JudgementLaws.{lawful-done, lawful-check, lawful-declare, lawful-find, lawful-names, lawful-refuse, lawful-then, lawful-then_given, option_decided, value_once, value_or_fault, never_both, fault_once}
 use Rattle.judgement.proofs.NamesKept.{none-done, none-check, none-find, none-then}
 use Rattle.term_grammar.specs.Syntax.{Identifier, symbol, indexed, Qualified, unqualified, qualified, qualified_at, SortedSymbol, Term, constant, qualified_term, application, let_in, for_all, there_exists, match_with, annotated, term_at, Terms, no_terms, with_term, Bindings, no_bindings, with_binding, Notes, no_notes, with_note, Note, named_note, pattern_note, attribute_note}
 use Rattle.term_grammar.specs.Syntax as syntax
@@ -15,11 +17,17 @@ use Rattle.sort_store.specs.Tree.{Sort, node_count}
 use Rattle.theory_core.proofs.SortsDecided.{sort_decided}
 use Rattle.term_store.specs.Term.{PlainTerm, plain_sort}
 use Rattle.term_store.specs.Term as typed
-use Rattle.typer.specs.FunctionSymbols.{Signature, Function, theory, declared, function_of, indexed_function, text_of, HasRank, is_ambiguous, is_fun_in_use}
+use Rattle.theory_bv.specs.declared.index.Index.{Index}
+use Rattle.theory_bv.specs.Indices.{greatest}
+use Rattle.theory_bv.specs.Ranks.{HasBvBadIndex, IsBvTooWide}
+use Rattle.typer.specs.BitVectors.{HasBitsRank, width_of}
+use Rattle.typer.specs.FunctionSymbols.{Signature, Function, theory, bits, declared, function_of, indexed_function, text_of, HasRank, is_ambiguous, is_fun_in_use, judge_result}
 use Rattle.typer.specs.FreeVariables.{has_free, is_one_of}
 use Rattle.typer.specs.RankRules.{judge_rank}
 use Rattle.typer.specs.SortRules.{only_numeral}
-use Rattle.typer.specs.TermRules.{MayBeNamed, PlainNote, literal_sort, number_after, bound, bound_sort, quantified, judge_binding, judge_bindings, judge_quantifier, judge_sorted, judge_variables, judge_name, judge_note, judge_notes, judge_function, judge_head, judge_indexed_head, judge_symbol, judge_application, judge_asked, identifier_of, judge_literal, judge_term, judge_terms, Elaborates, TermFault}
+use Rattle.typer.specs.TermRules.{HasDivisor, IsNarrow, TakesIndices, MayBeNamed, PlainNote, literal_sort, number_after, bound, bound_sort, quantified, judge_binding, judge_bindings, judge_quantifier, judge_sorted, judge_variables, judge_name, judge_note, judge_notes, judge_function, judge_head, judge_indexed_head, judge_symbol, judge_application, judge_asked, identifier_of, judge_literal, judge_literal_sort, judge_term, judge_terms, Elaborates, TermFault}
+use Rattle.typer.proofs.BitsRanks.{bad_index_decided, too_wide_decided, bits_rank_decided, bits_result_decided, bits_result_once}
+use Rattle.typer.proofs.HeadSteps.{no_divisor, zero_divisor, divisor}
 use Rattle.typer.proofs.RankDecisions.{theory_rank_decided, theory_result_decided, theory_result_once, instance_decided, instance_result_decided, instance_result_once}
 use Rattle.typer.proofs.SortLaws.{at_most, lawful-sort, none-sort}
 
@@ -32,6 +40,10 @@ all_false true b c = inr (λ h. (let e = h.0 in cc))
 all_false false true c = inr (λ h. (let e = h.1 in cc))
 all_false false false true = inr (λ h. (let e = h.2 in cc))
 all_false false false false = inl (refl, refl, refl)
+
+not_decided : {P : Type 0} → P ⊎ (P → ⊥) → (P → ⊥) ⊎ ((P → ⊥) → ⊥)
+not_decided (inl p) = inr (λ n. n p)
+not_decided (inr n) = inl n
 
 -- the rule on ranks, where it is decided which result sorts there are
 module _ (rank : Sort → Type 0) (some : ((s : Sort) × rank s) ⊎ (((s : Sort) × rank s) → ⊥)) (each : (s : Sort) → rank s ⊎ (rank s → ⊥)) (at : ℕ) where
@@ -66,20 +78,51 @@ bare_decided [] None = inl (refl, refl)
 bare_decided [] (Some s) = inr (λ h. (let e = h.1 in cc))
 bare_decided (t ∷ ts) asked = inr (λ h. (let e = h.0 in cc))
 
+-- the rule on the rank of each kind of function symbol
+module _ (theories : Theories) (at : ℕ) (args : List Sort) (asked : Option Sort) where
+  abbrev bits_rank : List ℕ → List Index → Judging Sort
+  bits_rank text is = judge_rank (HasBitsRank text is args) false at asked
+
+  lawful-result : (f : Function) → Lawful (judge_result theories f at args asked)
+  lawful-result (theory text) =
+      lawful-rank (HasRank theories (theory text) args) (theory_rank_decided theories text args) (theory_result_decided theories text args) at false (λ _. theory_result_once theories text args) asked
+  lawful-result (bits text is) =
+      lawful-then (check (HasBvBadIndex text is (map width_of args) → ⊥) WrongIndex at) (λ _. check (IsBvTooWide text is (map width_of args) → ⊥) NumberTooLarge at >>= (λ _. bits_rank text is))
+      (lawful-check _ _ _ (not_decided (bad_index_decided text is args)))
+      (λ _. lawful-then (check (IsBvTooWide text is (map width_of args) → ⊥) NumberTooLarge at) (λ _. bits_rank text is) (lawful-check _ _ _ (not_decided (too_wide_decided text is args)))
+      (λ _. lawful-rank (HasBitsRank text is args) (bits_rank_decided text is args) (bits_result_decided text is args) at false (λ _. bits_result_once text is args) asked))
+  lawful-result (declared f) =
+      lawful-rank (HasRank theories (declared f) args) (instance_decided f args) (instance_result_decided f args) at (is_ambiguous (declared f)) (λ e s u. instance_result_once f args s u e) asked
+
+  none-result : (f : Function) → DeclaresNone (judge_result theories f at args asked)
+  none-result (theory text) = none-rank _ _ _ asked
+  none-result (bits text is) = none-then _ _ (none-check _ _ _) (λ _. none-then _ _ (none-check _ _ _) (λ _. none-rank _ _ _ asked))
+  none-result (declared f) = none-rank _ _ _ asked
+
+module _ (signature : Signature) (is : List Tok) where
+  divisor_decided : HasDivisor signature is ⊎ (HasDivisor signature is → ⊥)
+  divisor_decided = by (only_numeral is) refl
+    where
+      by : (o : Option Tok) → only_numeral is ≡ o → HasDivisor signature is ⊎ (HasDivisor signature is → ⊥)
+      by None e = inr (no_divisor signature is e)
+      by (Some i) e = elim (cases_Bool (bytes_eq (text_of signature i.name) (codes "0"))) [ inl z ↦ inr (zero_divisor signature is i e z) | inr z ↦ inl (divisor signature is i e z) ]
+
+  indices_decided : (f : Function) → TakesIndices signature f is ⊎ (TakesIndices signature f is → ⊥)
+  indices_decided (theory text) = divisor_decided
+  indices_decided (bits text indices) = inl tt
+  indices_decided (declared f) = inl tt
+
 module _ (signature : Signature) (vars : List (ℕ × Sort)) where
   lawful-function : (f : Function) (at : ℕ) (args : List Sort) (asked : Option Sort) (name : ℕ) (indices : List ℕ) → Lawful (judge_function signature f at args asked name indices)
-  lawful-function (theory text) at args asked name indices =
-      lawful-then _ _ (lawful-rank (HasRank signature.theories (theory text) args) (theory_rank_decided signature.theories text args) (theory_result_decided signature.theories text args) at false (λ _. theory_result_once signature.theories text args) asked) (λ r. lawful-done _)
-  lawful-function (declared f) at args asked name indices =
-      lawful-then _ _ (lawful-rank (HasRank signature.theories (declared f) args) (instance_decided f args) (instance_result_decided f args) at (is_ambiguous (declared f)) (λ e s u. instance_result_once f args s u e) asked) (λ r. lawful-done _)
+  lawful-function f at args asked name indices = lawful-then _ _ (lawful-result signature.theories at args asked f) (λ r. lawful-done _)
 
   lawful-head : (at : ℕ) (args : List Sort) (asked : Option Sort) (name : ℕ) → Lawful (judge_head signature at args asked name)
   lawful-head at args asked name = lawful-then _ _ (lawful-find _ _ _ (option_decided (function_of signature name))) (λ f. lawful-function f at args asked name [])
 
   lawful-indexed_head : (at : ℕ) (args : List Sort) (asked : Option Sort) (name : ℕ) (is : List Tok) → Lawful (judge_indexed_head signature at args asked name is)
   lawful-indexed_head at args asked name is =
-      lawful-then _ _ (lawful-find _ _ _ (option_decided (indexed_function signature name))) (λ f. lawful-then _ _ (lawful-find _ _ _ (option_decided (only_numeral is)))
-      (λ i. lawful-then _ _ (lawful-check _ _ _ (test_decided (not (bytes_eq (text_of signature i.name) (codes "0"))))) (λ _. lawful-function f at args asked name (i.name ∷ []))))
+      lawful-then _ _ (lawful-find _ _ _ (option_decided (indexed_function signature name is)))
+      (λ f. lawful-then (check (TakesIndices signature f is) WrongIndex at) (λ _. judge_function signature f at args asked name (map (λ i. i.name) is)) (lawful-check _ _ _ (indices_decided signature is f)) (λ _. lawful-function f at args asked name _))
 
   lawful-symbol : (o : Option Sort) (at : ℕ) (args : List PlainTerm) (asked : Option Sort) (name : ℕ) → Lawful (judge_symbol signature o at args asked name)
   lawful-symbol (Some s) at args asked name = lawful-then _ _ (lawful-check _ _ _ (bare_decided args asked)) (λ _. lawful-done _)
@@ -94,10 +137,14 @@ module _ (signature : Signature) (vars : List (ℕ × Sort)) where
   lawful-asked (qualified _ i s) = lawful-then _ _ (lawful-sort signature.texts signature.declarations signature.theories [] s) (λ t. lawful-done _)
 
   lawful-literal : (t : Tok) → Lawful (judge_literal signature t)
-  lawful-literal t = lawful-then _ _ (lawful-find _ _ _ (option_decided (literal_sort signature.theories t))) (λ s. lawful-done _)
+  lawful-literal t =
+      lawful-then (judge_literal_sort signature t) (λ s. done (typed.term tt s (typed.lit t.kind t.name)))
+      (lawful-then _ _ (lawful-find _ _ _ (option_decided (literal_sort signature.theories (text_of signature t.name) t.kind)))
+      (λ s. lawful-then (check (IsNarrow s) NumberTooLarge t.at) (λ _. done s) (lawful-check _ _ _ (at_most (unwrap_or (width_of s) 0) greatest)) (λ _. lawful-done s)))
+      (λ s. lawful-done _)
 
   none-function : (f : Function) (at : ℕ) (args : List Sort) (asked : Option Sort) (name : ℕ) (indices : List ℕ) → DeclaresNone (judge_function signature f at args asked name indices)
-  none-function f at args asked name indices = none-then _ _ (none-rank _ _ _ asked) (λ r. none-done _)
+  none-function f at args asked name indices = none-then _ _ (none-result signature.theories at args asked f) (λ r. none-done _)
 
   none-symbol : (o : Option Sort) (at : ℕ) (args : List PlainTerm) (asked : Option Sort) (name : ℕ) → DeclaresNone (judge_symbol signature o at args asked name)
   none-symbol (Some s) at args asked name = none-then _ _ (none-check _ _ _) (λ _. none-done _)
@@ -106,7 +153,7 @@ module _ (signature : Signature) (vars : List (ℕ × Sort)) where
   pub none-application : (i : Identifier) (at : ℕ) (args : List PlainTerm) (asked : Option Sort) → DeclaresNone (judge_application signature vars at args asked i)
   none-application (symbol t) at args asked = none-symbol (bound vars t.name) at args asked t.name
   none-application (indexed _ t is) at args asked =
-      none-then _ _ (none-then _ _ (none-find _ _ _) (λ f. none-then _ _ (none-find _ _ _) (λ i. none-then _ _ (none-check _ _ _) (λ _. none-function f at (map plain_sort args) asked t.name (i.name ∷ []))))) (λ h. none-done _)
+      none-then _ _ (none-then _ _ (none-find _ _ _) (λ f. none-then _ _ (none-check _ _ _) (λ _. none-function f at (map plain_sort args) asked t.name _))) (λ h. none-done _)
 
   pub none-asked : (q : Qualified) → DeclaresNone (judge_asked signature q)
   none-asked (unqualified i) = none-done _

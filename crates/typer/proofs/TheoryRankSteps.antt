@@ -1,7 +1,7 @@
 -- The ranks of Core and of the theories of a logic, from those of each theory.
 use Rattle.std.proofs.Common.{◌≡◌, ℕ, zero, suc, ◌<◌, ◌≤◌, Bool, true, false, List, [], ◌∷◌, ◌++◌, length, map, Option, Some, None, Result, Ok, Err, ◌⊎◌, inl, inr, ◌↔◌, slice_get, get_or, refl, ap, sym, ◌∙◌, subst, arith, append_assoc}
-use Rattle.std.specs.Option.{IsSome, IfSome}
-use Rattle.std.specs.Result.{IfOk}
+use Rattle.std.specs.Option.{IsSome, IfSome, IsSomeAnd, option_map}
+use Rattle.std.specs.Result.{IfErr, IfOk}
 use Rattle.std.proofs.lemmas.List.{map-append, length-map}
 use Rattle.std.proofs.lemmas.List.Elements.{filter-append}
 use Rattle.std.specs.List.{filter}
@@ -22,9 +22,10 @@ use Rattle.theory_core.specs.TheorySymbols.{theory_symbols}
 use Rattle.theory_core.specs.IntsRanks.{ints_symbols}
 use Rattle.theory_core.specs.ArraysRanks.{array, arrays_symbols}
 use Rattle.typer.specs.Answers as typer
+use Rattle.typer.specs.Answers.{fault_at}
 use Rattle.typer.specs.declared.error.TyError.{TyError}
 use Rattle.typer.specs.FunctionSymbols.{if_present, symbols_past_core, judge_theory}
-use Rattle.typer.proofs.RankAnswers.{fault_at, no_rank, has_rank, other_rank, has_asked_rank}
+use Rattle.typer.proofs.RankAnswers.{asked_result, no_rank}
 
 -- the ranks of two lists of symbols together
 ranks_of-append : (name : List ℕ) (a b : List RankedSymbol) → ranks_of name (a ++ b) ≡ ranks_of name a ++ ranks_of name b
@@ -143,19 +144,18 @@ module _ (theories : Theories) (text : List ℕ) (at : ℕ) (args : List Sort) w
   no_theory_rank asked o e h n same = subst (λ z. typer.Answers {A = Sort} (Err z) (judge_theory theories text at args asked)) (sym same)
       (no_rank Has false at asked (λ s r. ((subst (λ p. Answers p (ranks_of text (theory_symbols theories)) args) n h).result s).1 r))
 
-  module _ (f : RankFound) (h : Answers (Some f) (ranks_of text (theory_symbols theories)) args) (t : Sort) (told : IsFoundSort f args t) where
-    pub theory_rank_is : node_count t ≤ 1000 → typer.Answers (Ok t) (judge_theory theories text at args None)
-    theory_rank_is l = has_rank Has false at t ((h.result t).0 told) refl l
+  -- the result sort, or another one is asked for
+  pub theory_rank_is : (o : Option RankFound) (f : RankFound) → Answers o (ranks_of text (theory_symbols theories)) args → o ≡ Some f → HaveOneResult (theory_symbols theories)
+      → (s : NumberedSort) → IsFoundSort f args (tree s) → node_count (tree s) ≤ 1000 → (asked : Option NumberedSort) (r : Result NumberedSort TyError) → IfOk r (λ t. (t ≡ s) × IfSome asked (λ a. tree s ≡ tree a))
+      → IfErr r (λ e. (e ≡ fault_at WrongQualifiedSort at) × IsSomeAnd asked (λ a. tree s ≡ tree a → ⊥)) → typer.Answers (typer.tree_answer r) (judge_theory theories text at args (option_map tree asked))
+  theory_rank_is o f h same one s told small asked r ok err = asked_result Has at s asked r has (λ t k. one text args (tree s) t has k) small ok err
+    where
+      has : Has (tree s)
+      has = ((subst (λ p. Answers p (ranks_of text (theory_symbols theories)) args) same h).result (tree s)).0 told
 
-    pub theory_rank_asked : (asked : Sort) → t ≡ asked → typer.Answers (Ok t) (judge_theory theories text at args (Some asked))
-    theory_rank_asked asked e = subst (λ z. typer.Answers (Ok z) (judge_theory theories text at args (Some asked))) (sym e) (has_asked_rank Has false at asked (subst Has e ((h.result t).0 told)))
-
-    pub theory_rank_other : (asked : Sort) (e : TyError) → HaveOneResult (theory_symbols theories) → (t ≡ asked → ⊥) → e ≡ fault_at WrongQualifiedSort at → typer.Answers {A = Sort} (Err e) (judge_theory theories text at args (Some asked))
-    theory_rank_other asked e one n same = subst (λ z. typer.Answers {A = Sort} (Err z) (judge_theory theories text at args (Some asked))) (sym same)
-        (other_rank Has false at t asked ((h.result t).0 told) (λ r. n (one text args t asked ((h.result t).0 told) r)))
-
-pub asked_together : (old new : List Sort) (r a : NumberedSort) (asked : Option NumberedSort) → asked ≡ Some a → IfSome asked (IsInterned old) → Grows old new → HasNoRepeats new → IsInterned new r → InternedTogether r a
-asked_together old new r a asked e h g distinct k = record { store = new; distinct = distinct; first = k; second = interned_grown old new a g (subst (λ o. IfSome o (IsInterned old)) e h) }
+pub asked_together : (old new : List Sort) (r : NumberedSort) (asked : Option NumberedSort) → IfSome asked (IsInterned old) → Grows old new → HasNoRepeats new → IsInterned new r → IfSome asked (λ a. InternedTogether r a)
+asked_together old new r None h g distinct k = tt
+asked_together old new r (Some a) h g distinct k = record { store = new; distinct = distinct; first = k; second = interned_grown old new a g h }
 
 pub on_interned : (store : List Sort) (rs : List NumberedSort) (i : ℕ) (x : NumberedSort) → AllInterned store rs → i < length rs → x ≡ get_or rs i x → IsInterned store x
 on_interned store rs i x h l at = subst (IsInterned store) (sym at) (all_interned_at store rs i x l h)

@@ -3,7 +3,9 @@ use Rattle.std.specs.Prelude.{ℕ, List, map, Option, option_map, Result, Ok, Er
 use Rattle.std.specs.Prelude.{Vec}
 use Rattle.std.specs.Global.{Global}
 use Rattle.judgement.specs.Judging.{Judging, well_sorted, ill_sorted}
-use Rattle.sort_store.specs.Tree.{Sort, NumberedSort, tree}
+use Rattle.sort_store.specs.declared.head.Head.{Head}
+use Rattle.sort_store.specs.Tree.{Sort, NumberedSort, no_sorts, sort, tree}
+use Rattle.sig_table.specs.declared.code.Code.{Code}
 use Rattle.sig_table.specs.declared.code.Code.TheVariants.{SortTooLarge}
 use Rattle.sort_store.specs.declared.error.SortError.{SortError}
 use Rattle.sort_store.specs.declared.error.SortError.TheVariants as store
@@ -39,13 +41,22 @@ abbrev pub tree_answer : Result NumberedSort TyError → Result Sort TyError
 tree_answer (Ok r) = Ok (tree r)
 tree_answer (Err e) = Err e
 
+-- the sort of a sort symbol without arguments
+abbrev pub constant_answer : Result Head TyError → Result Sort TyError
+constant_answer (Ok h) = Ok (sort h no_sorts)
+constant_answer (Err e) = Err e
+
 abbrev pub trees_answer : Result (Vec NumberedSort Global) TyError → Result (List Sort) TyError
 trees_answer (Ok v) = Ok (map tree v.items)
 trees_answer (Err e) = Err e
 
+-- the fault with this code at a byte
+abbrev pub fault_at : Code → ℕ → TyError
+fault_at code at = error.Fault (record { code = code; at = at })
+
 -- the fault of a sort that the store did not make
 abbrev pub fault_of_store : SortError → ℕ → TyError
-fault_of_store store.TooLarge at = error.Fault (record { code = SortTooLarge; at = at })
+fault_of_store store.TooLarge at = fault_at SortTooLarge at
 fault_of_store store.NoMemory at = error.NoMemory
 
 -- the trees of typed terms and of their parts

@@ -6,6 +6,7 @@ pub mod Answers
 pub mod Ready
 pub mod RankRules
 pub mod LiveRanks
+pub mod BitVectors
 pub mod FunctionSymbols
 pub mod TermRules
 pub mod FreeVariables

@@ -1,13 +1,14 @@
 -- The rules on terms (SMT-LIB 2.6, section 3.6): one list of items for each production. A term is judged after its parts,
 -- and these from left to right.
-use Rattle.std.specs.Prelude.{◌≡◌, ℕ, ◌+◌, ◌==◌, ◌&&◌, Bool, true, false, not, IsTrue, if◌then◌else◌, List, [], ◌∷◌, ◌++◌, length, codes, bytes_eq, map, Option, Some, None}
+use Rattle.std.specs.Prelude.{◌≡◌, ℕ, ◌+◌, ◌-◌, ◌*◌, ◌≤◌, ◌==◌, Bool, true, false, not, IsTrue, if◌then◌else◌, List, [], ◌∷◌, ◌++◌, length, codes, bytes_eq, map, Option, Some, None, unwrap_or, ⊤}
 use Rattle.std.specs.List.{list_any}
-use Rattle.sig_table.specs.declared.code.Code.TheVariants.{WrongTermForm, WrongTermSort, LiteralWithoutSort, UnknownFunction, WrongIndex, AppliedVariable, RepeatedVariable, WrongNamedTerm}
+use Rattle.sig_table.specs.declared.code.Code.TheVariants.{WrongTermForm, WrongTermSort, LiteralWithoutSort, NumberTooLarge, UnknownFunction, WrongIndex, AppliedVariable, RepeatedVariable, WrongNamedTerm}
 use Rattle.sig_table.specs.declared.theories.Theories.{Theories}
 use Rattle.lex_core.specs.declared.place.Place.{Place}
 use Rattle.lex_core.specs.declared.token.Tok.{Tok}
+use Rattle.lex_core.specs.declared.token.TokKind.{TokKind}
+use Rattle.lex_core.specs.declared.token.TokKind.TheVariants as kind
 use Rattle.judgement.specs.Judging.{Judging, well_sorted, ill_sorted, done, ◌>>=◌, check, find, refuse, names, declare}
-use Rattle.term_grammar.specs.Words.{is_numeral}
 use Rattle.sexp_core.specs.Sexp.{Sexp}
 use Rattle.term_grammar.specs.Syntax.{Identifier, symbol, indexed, Qualified, unqualified, qualified, qualified_at, SortedSymbol, Attribute, keyword_attribute, valued_attribute, constant, qualified_term, application, let_in, for_all, there_exists, match_with, annotated, term_at, Terms, no_terms, with_term, Bindings, no_bindings, with_binding, Notes, no_notes, with_note, Note, named_note, pattern_note, attribute_note}
 use Rattle.term_grammar.specs.Syntax as syntax
@@ -15,21 +16,26 @@ use Rattle.sort_store.specs.declared.head.DeclNo.{DeclNo}
 use Rattle.sort_store.specs.Tree.{Sort}
 use Rattle.sort_store.specs.CoreRanks.{bool}
 use Rattle.theory_core.specs.IntsRanks.{int}
+use Rattle.theory_bv.specs.Indices.{greatest}
 use Rattle.term_store.specs.Term.{PlainTerm, term, lit, var, app, quant, ann, plain_sort, plain_terms}
 use Rattle.term_store.specs.Term as typed
 use Rattle.term_store.specs.Value.{unplaced}
 use Rattle.term_store.specs.declared.parts.Applied.{Applied}
 use Rattle.term_store.specs.declared.parts.Fun.{Fun}
 use Rattle.term_store.specs.declared.parts.Fun.TheVariants as fun
-use Rattle.typer.specs.RankRules.{judge_rank}
+use Rattle.typer.specs.BitVectors.{bit_vector, width_of}
 use Rattle.typer.specs.SortRules.{only_numeral, judge_sort}
 use Rattle.typer.specs.SortSymbols.{or_else}
-use Rattle.typer.specs.FunctionSymbols.{Signature, Function, theory, declared, function_of, indexed_function, text_of, HasRank, is_ambiguous, is_fun_in_use}
+use Rattle.typer.specs.FunctionSymbols.{Signature, Function, theory, bits, declared, function_of, indexed_function, text_of, is_ambiguous, judge_result, is_fun_in_use}
 use Rattle.typer.specs.FreeVariables.{has_free, is_one_of}
 
--- the sort of a literal: a numeral is an Int where the logic has Ints
-abbrev pub literal_sort : Theories → Tok → Option Sort
-literal_sort theories t = if theories.ints && is_numeral t then Some int else None
+-- the sort of a literal with this text, which begins with two other bytes where it is binary or hexadecimal: a hexadecimal digit
+-- stands for four bits
+abbrev pub literal_sort : Theories → List ℕ → TokKind → Option Sort
+literal_sort theories text kind.Numeral = if theories.ints then Some int else None
+literal_sort theories text kind.Binary = if theories.bits then Some (bit_vector (length text - 2)) else None
+literal_sort theories text kind.Hexadecimal = if theories.bits then Some (bit_vector (4 * (length text - 2))) else None
+literal_sort theories text _ = None
 
 -- what the last variable of this name has, which hides those before it
 abbrev pub bound : {A : Type 0} → List (ℕ × A) → ℕ → Option A
@@ -39,6 +45,7 @@ bound (v ∷ vs) name = or_else (bound vs name) (if v.0 == name then Some v.1 el
 -- what stands for the function symbol in the typed term
 abbrev pub fun_of : Function → Fun
 fun_of (theory text) = fun.Theory
+fun_of (bits text is) = fun.Theory
 fun_of (declared f) = fun.Declared f.number
 
 abbrev pub applied : Function → ℕ → List ℕ → Applied
@@ -47,7 +54,7 @@ applied f name indices = record { fun = fun_of f; name = name; indices = indices
 -- a function symbol with its result sort, where it stands with these argument sorts in a term that begins at a byte
 abbrev pub judge_function : Signature → Function → ℕ → List Sort → Option Sort → ℕ → List ℕ → Judging (Applied × Sort)
 judge_function signature f at args asked name indices = do
-  result ← judge_rank (HasRank signature.theories f args) (is_ambiguous f) at asked
+  result ← judge_result signature.theories f at args asked
   done (applied f name indices, result)
 
 -- .. written without indices
@@ -56,13 +63,28 @@ judge_head signature at args asked name = do
   f ← find (λ f. function_of signature name ≡ Some f) UnknownFunction at
   judge_function signature f at args asked name []
 
--- .. and with them: only (_ divisible n) is such a symbol, where n is one numeral and not zero
+-- the index of (_ divisible n) is one numeral and not zero
+pub record HasDivisor (signature : Signature) (is : List Tok) : Type 0 where
+  pub divisor : Tok
+  pub alone : only_numeral is ≡ Some divisor
+  pub not_zero : IsTrue (not (bytes_eq (text_of signature divisor.name) (codes "0")))
+
+-- what is asked of the indices before the rank: of the other theories' symbols only `divisible` has an index
+abbrev pub TakesIndices : Signature → Function → List Tok → Type 0
+TakesIndices signature (theory text) is = HasDivisor signature is
+TakesIndices signature (bits text indices) is = ⊤
+TakesIndices signature (declared f) is = ⊤
+
+-- .. written with indices
+abbrev pub judge_indexed_function : Signature → Function → ℕ → List Sort → Option Sort → ℕ → List Tok → Judging (Applied × Sort)
+judge_indexed_function signature f at args asked name is = do
+  _ ← check (TakesIndices signature f is) WrongIndex at
+  judge_function signature f at args asked name (map (λ i. i.name) is)
+
 abbrev pub judge_indexed_head : Signature → ℕ → List Sort → Option Sort → ℕ → List Tok → Judging (Applied × Sort)
 judge_indexed_head signature at args asked name is = do
-  f ← find (λ f. indexed_function signature name ≡ Some f) UnknownFunction at
-  i ← find (λ i. only_numeral is ≡ Some i) WrongIndex at
-  _ ← check (IsTrue (not (bytes_eq (text_of signature i.name) (codes "0")))) WrongIndex at
-  judge_function signature f at args asked name (i.name ∷ [])
+  f ← find (λ f. indexed_function signature name is ≡ Some f) UnknownFunction at
+  judge_indexed_function signature f at args asked name is
 
 -- an application of a function symbol to arguments
 abbrev pub apply_head : Applied × Sort → List PlainTerm → PlainTerm
@@ -107,10 +129,20 @@ judge_constant signature vars q = do
   asked ← judge_asked signature q
   judge_application signature vars (qualified_at q) [] asked (identifier_of q)
 
+-- the width of the sort, if it has one, is not too large
+abbrev pub IsNarrow : Sort → Type 0
+IsNarrow s = unwrap_or (width_of s) 0 ≤ greatest
+
+abbrev pub judge_literal_sort : Signature → Tok → Judging Sort
+judge_literal_sort signature t = do
+  s ← find (λ s. literal_sort signature.theories (text_of signature t.name) t.kind ≡ Some s) LiteralWithoutSort t.at
+  _ ← check (IsNarrow s) NumberTooLarge t.at
+  done s
+
 -- a literal
 abbrev pub judge_literal : Signature → Tok → Judging PlainTerm
 judge_literal signature t = do
-  s ← find (λ s. literal_sort signature.theories t ≡ Some s) LiteralWithoutSort t.at
+  s ← judge_literal_sort signature t
   done (term tt s (lit t.kind t.name))
 
 -- A variable of a let with its term.

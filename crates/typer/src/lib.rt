@@ -3,6 +3,7 @@
 
 mod apply;
 mod binders;
+mod bits;
 mod error;
 mod free;
 mod head;

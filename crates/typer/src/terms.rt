@@ -10,11 +10,11 @@ ghost use Rattle.term_store.specs.NumberedNodes.{numbered_note, numbered_notes};
 ghost use Rattle.term_grammar.specs.Syntax as syntax;
 ghost use Rattle.term_grammar.specs.Syntax.{qualified_at, term_at};
 ghost use Rattle.term_store.specs.Term.{plain_var, tree};
-ghost use Rattle.typer.specs.Answers.{Answers, Meets, asked_answer, bindings_answer, note_answer, notes_answer, term_answer, typed_answer, typed_answers};
+ghost use Rattle.typer.specs.Answers.{Answers, Meets, asked_answer, bindings_answer, constant_answer, note_answer, notes_answer, term_answer, typed_answer, typed_answers};
 ghost use Rattle.typer.specs.FunctionSymbols.{signature_of};
 ghost use Rattle.typer.specs.Ready.{IsReady};
 ghost use Rattle.typer.specs.TermRules as spec;
-ghost use Rattle.typer.specs.TermRules.{apply_head, judge_application, judge_asked, judge_bindings, judge_constant, judge_indexed_symbol, judge_literal, judge_note, judge_notes, judge_quantifier, judge_symbol, judge_term, judge_terms, judge_variable, judge_variables};
+ghost use Rattle.typer.specs.TermRules.{apply_head, judge_application, judge_asked, judge_bindings, judge_constant, judge_indexed_symbol, judge_literal, judge_literal_sort, judge_note, judge_notes, judge_quantifier, judge_symbol, judge_term, judge_terms, judge_variable, judge_variables};
 ghost use Rattle.typer.specs.Typed.{AreBound, AreTyped, AreTypedBindings, HasElaborated, HasGrown, IsTyped};
 
 use crate::binders::{
@@ -26,14 +26,15 @@ use crate::made::{constant_sort, copy_of};
 use crate::names::name_term;
 use crate::notes::{new_annotation, other_note};
 use crate::sorts::type_sort;
+use crate::symbol::text_of;
 use crate::typed::{TypedBinding, TypedTerm, TypedTerms, new_term};
 use crate::world::World;
-use lex_core::{NameId, Tok};
+use lex_core::{NameId, Tok, TokKind};
 use sig_table::Code;
 use sort_store::{Head, SortRef};
 use term_grammar::{
     RawBindings, RawIdentifier, RawIdentifierKind, RawIndices, RawNote, RawNoteKind, RawNotes,
-    RawQualified, RawQualifiedKind, RawTerm, RawTermKind, RawTerms, RawVariables, is_numeral,
+    RawQualified, RawQualifiedKind, RawTerm, RawTermKind, RawTerms, RawVariables,
 };
 use term_store::{Note, TermNode, TermRef};
 
@@ -51,6 +52,24 @@ fn bound(vars: &[(NameId, SortRef)], name: NameId) -> Option<&SortRef>
     found
 }
 
+// The sort symbol of a literal's sort.
+fn literal_head(world: &World, tok: &Tok) -> Result<Head, TyError>
+    ensures { Answers (constant_answer result) (judge_literal_sort (signature_of world.now) tok.now) }
+{
+    // Two bytes, `#b` or `#x`, stand before the digits.
+    let digit_count = text_of(&world.names, tok.name).len().saturating_sub(2);
+    let width = match tok.kind {
+        TokKind::Numeral if world.theories.ints => return Ok(Head::Int),
+        TokKind::Binary if world.theories.bits => digit_count,
+        TokKind::Hexadecimal if world.theories.bits => digit_count.saturating_mul(4),
+        _ => return Err(fault(Code::LiteralWithoutSort, tok.at)),
+    };
+    match u32::try_from(width) {
+        Ok(width) => Ok(Head::BitVec(width)),
+        Err(_) => Err(fault(Code::NumberTooLarge, tok.at)),
+    }
+}
+
 // A literal.
 #[tactic(auto, using(crate::proofs::TypedSteps::typed_words))]
 fn literal(world: &mut World, tok: Tok) -> Result<TypedTerm, TyError>
@@ -60,10 +79,8 @@ fn literal(world: &mut World, tok: Tok) -> Result<TypedTerm, TyError>
     ensures grown { HasGrown world.old world.new }
     ensures ready { IsReady world.new }
 {
-    if !world.theories.ints || !is_numeral(&tok) {
-        return Err(fault(Code::LiteralWithoutSort, tok.at));
-    }
-    let sort = constant_sort(&mut world.sorts, Head::Int)?;
+    let head = literal_head(world, &tok)?;
+    let sort = constant_sort(&mut world.sorts, head)?;
     let node = TermNode::Lit {
         kind: tok.kind,
         text: tok.name,

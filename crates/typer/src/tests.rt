@@ -86,7 +86,7 @@ static THEORY_SORTS: [Row; 14] = [
 type TermRow = (&'static [u8], &'static [u8], u32);
 
 // Terms where the logic has Ints, and nothing is declared: the answer is a code and a byte.
-static TERMS: [TermRow; 32] = [
+static TERMS: [TermRow; 36] = [
     // The terms of a let stand in the outer variables, its body in all.
     (b"(let ((x true) (y false)) (and x y))", b"ok", 0),
     (b"(let ((x true) (y x)) y)", b"TY-1", 18),
@@ -141,6 +141,86 @@ static TERMS: [TermRow; 32] = [
         0,
     ),
     (b"(! true :named o :pattern (y))", b"TY-1", 27),
+    // The logic has no bit vectors.
+    (b"#b1", b"TY-5", 0),
+    (b"(bvand 1 1)", b"TY-1", 0),
+    (b"(_ bv5 8)", b"TY-1", 0),
+    (b"(! true :named bvand)", b"ok", 0),
+];
+
+// Terms on bit vectors where the logic has all theories, and nothing is declared.
+static BIT_VECTORS: [TermRow; 54] = [
+    // Each hexadecimal digit stands for four bits.
+    (b"(= #xF #b0000)", b"ok", 0),
+    (b"(= #xF #b000)", b"TY-2", 0),
+    (b"1.5", b"TY-5", 0),
+    // Symbols without indices.
+    (b"(= (concat #b1 #xF) #b00000)", b"ok", 0),
+    (b"(= (bvand #xF #xF #xF) (bvnot #x0))", b"ok", 0),
+    (b"(= (bvcomp #xF #x0) #b1)", b"ok", 0),
+    (b"(not (bvult #b0 #b1))", b"ok", 0),
+    (b"(bvadd #xF)", b"TY-2", 0),
+    (b"(bvult #xF #b1)", b"TY-2", 0),
+    (b"(bvult 1 1)", b"TY-2", 0),
+    (b"(concat #b1 (bvnot 1))", b"TY-2", 12),
+    // Symbols with indices.
+    (b"(= ((_ extract 2 1) #xF) #b00)", b"ok", 0),
+    (b"(= ((_ repeat 3) #b10) #b101010)", b"ok", 0),
+    (
+        b"(= ((_ zero_extend 0) #xF) ((_ rotate_left 9) #xF))",
+        b"ok",
+        0,
+    ),
+    (b"(= ((_ sign_extend 4) #xF) #x00)", b"ok", 0),
+    (b"((_ rotate_right 4294967295) #b1)", b"ok", 0),
+    (b"(= (_ bv7 8) #x07)", b"ok", 0),
+    (b"(_ bv18446744073709551616 1)", b"ok", 0),
+    (b"(_ bv5 4294967295)", b"ok", 0),
+    (b"((_ divisible 99999999999) 6)", b"ok", 0),
+    (b"((_ divisible 0) 6)", b"TY-7", 0),
+    // No symbol is written so.
+    (b"(= (_ bv007 8) #x00)", b"TY-1", 3),
+    (b"(_ bv 8)", b"TY-1", 0),
+    (b"bv5", b"TY-1", 0),
+    (b"(extract #xF)", b"TY-1", 0),
+    (b"((_ concat 1) #b1 #b1)", b"TY-1", 0),
+    // The number and the kind of the indices, their size, the condition on them, the arguments, the
+    // width of the argument, and that of the result.
+    (b"((_ extract 4294967296) #xF)", b"TY-7", 0),
+    (b"((_ extract x 4294967296) #xF)", b"TY-7", 0),
+    (b"((_ extract 0 4294967296) 1)", b"LI-4", 0),
+    (b"(_ bv5 4294967296)", b"LI-4", 0),
+    (b"((_ extract 1 2) 1)", b"TY-7", 0),
+    (b"((_ repeat 0) 1)", b"TY-7", 0),
+    (b"(_ bv5 0)", b"TY-7", 0),
+    (b"((_ extract 4 0) 1)", b"TY-2", 0),
+    (b"((_ bv5 8) #b1)", b"TY-2", 0),
+    (b"((_ extract 4 0) #xF)", b"TY-7", 0),
+    (b"((_ extract 3 0) #xF)", b"ok", 0),
+    (b"(concat (_ bv0 4294967294) #b1)", b"ok", 0),
+    (b"(concat (_ bv0 4294967295) #b1)", b"LI-4", 0),
+    (b"((_ repeat 4294967295) #b00)", b"LI-4", 0),
+    (b"((_ sign_extend 4294967294) #b1)", b"ok", 0),
+    (b"((_ zero_extend 4294967295) #b1)", b"LI-4", 0),
+    // The sort of `as` is judged first; a result that is too wide comes before the sort asked for.
+    (b"((as concat (_ BitVec 5)) #b1 #xF)", b"ok", 0),
+    (b"((as concat (_ BitVec 4)) #b1 #xF)", b"TY-4", 0),
+    (b"((as (_ extract 4 0) Foo) #xF)", b"NA-3", 21),
+    (b"((as (_ extract 4 0) (_ BitVec 5)) 1)", b"TY-2", 0),
+    (
+        b"((as concat (_ BitVec 4)) (_ bv0 4294967295) #b1)",
+        b"LI-4",
+        0,
+    ),
+    (b"(as (_ bv1 8) (_ BitVec 8))", b"ok", 0),
+    (b"(as (_ bv1 8) (_ BitVec 7))", b"TY-4", 0),
+    // A bound variable hides a symbol without indices alone.
+    (b"(let ((concat #b1)) (concat #b1))", b"TY-8", 20),
+    (b"(let ((extract #b1)) ((_ extract 0 0) extract))", b"ok", 0),
+    // All names but those of literals are in use.
+    (b"(! (= #b1 #b1) :named bvand)", b"TY-9", 22),
+    (b"(! (= #b1 #b1) :named extract)", b"TY-9", 22),
+    (b"(! (= #b1 #b1) :named bv5)", b"ok", 0),
 ];
 
 fn is_named(names: &Names, name: NameId) -> bool
@@ -402,6 +482,17 @@ fn terms_of_ints(rt: HostRuntime) -> Result<(), Fail> {
     };
     let mut world = world_of(&rt, rt.alloc(), theories)?;
     compare_terms(&rt, &mut world, &TERMS)
+}
+
+#[test]
+fn terms_on_bit_vectors(rt: HostRuntime) -> Result<(), Fail> {
+    let theories = Theories {
+        ints: true,
+        arrays: true,
+        bits: true,
+    };
+    let mut world = world_of(&rt, rt.alloc(), theories)?;
+    compare_terms(&rt, &mut world, &BIT_VECTORS)
 }
 
 #[test]

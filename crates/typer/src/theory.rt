@@ -1,6 +1,7 @@
 //! The result sorts that the ranks of theory symbols give.
-ghost use Rattle.std.specs.Prelude.{◌≡◌, List, IfErr, IfOk, IfSome, length, map, option_map};
-ghost use Rattle.sort_store.specs.Interned.{IsInterned, AllInterned, HasNoRepeats, Grows};
+ghost use Rattle.std.specs.Prelude.{◌≡◌, List, IfErr, IfOk, IfSome, IsSomeAnd, length, map, option_map};
+ghost use Rattle.sig_table.specs.declared.code.Code.TheVariants.{WrongQualifiedSort};
+ghost use Rattle.sort_store.specs.Interned.{IsInterned, AllInterned, HasNoRepeats, Grows, InternedTogether};
 ghost use Rattle.sort_store.specs.Ranks.{ranks_of};
 ghost use Rattle.sort_store.specs.Tree.{Sort, tree};
 ghost use Rattle.theory_core.specs.Answers as ranks;
@@ -8,7 +9,7 @@ ghost use Rattle.theory_core.specs.Answers.{IsFoundSort, IsWithin};
 ghost use Rattle.theory_core.specs.ArraysRanks.{array, arrays_symbols};
 ghost use Rattle.theory_core.specs.Interned.{AreInternedTogether};
 ghost use Rattle.theory_core.specs.TheorySymbols.{theory_symbols};
-ghost use Rattle.typer.specs.Answers.{Answers, tree_answer};
+ghost use Rattle.typer.specs.Answers.{Answers, fault_at, tree_answer};
 ghost use Rattle.theory_core.specs.IntsRanks.{ints_symbols};
 ghost use Rattle.typer.specs.FunctionSymbols.{if_present, judge_theory, symbols_past_core};
 
@@ -52,7 +53,7 @@ fn rank_past_core(theories: &Theories, text: &[u8], args: &[SortRef]) -> Option<
     }
 }
 
-// The result of a rank that a symbol of Core or of a theory of the logic has with these argument sorts.
+// The result of a rank that a symbol of Core, Ints or ArraysEx has with these argument sorts, where the logic has these theories.
 fn theory_rank(theories: &Theories, text: &[u8], args: &[SortRef]) -> Option<RankFound>
     requires { AreInternedTogether args.now }
     ensures { ranks.Answers result (ranks_of text.now (theory_symbols theories.now)) (map tree args.now) }
@@ -97,7 +98,24 @@ fn found_sort(sorts: &mut SortStore, found: RankFound, args: &[SortRef]) -> Resu
     }
 }
 
-/// The result sort of a symbol of Core or of a theory of the logic with these argument sorts, in a term that begins at a byte.
+/// The sort, where `as` asks for no other one, in a term that begins at a byte.
+pub(crate) fn as_asked(sort: SortRef, at: u32, asked: &Option<SortRef>) -> Result<SortRef, TyError>
+    requires { IfSome asked.now (λ a. InternedTogether sort a) }
+    ensures ok { IfOk result (λ r. (r ≡ sort) × IfSome asked.now (λ a. tree sort ≡ tree a)) }
+    ensures err { IfErr result (λ e. (e ≡ fault_at WrongQualifiedSort at) × IsSomeAnd asked.now (λ a. tree sort ≡ tree a → ⊥)) }
+{
+    match asked {
+        None => Ok(sort),
+        Some(asked) => {
+            if !same(&sort, asked) {
+                return Err(fault(Code::WrongQualifiedSort, at));
+            }
+            Ok(sort)
+        }
+    }
+}
+
+/// The result sort of a symbol of Core, Ints or ArraysEx with these argument sorts, in a term that begins at a byte.
 /// The sort that is asked for is that of `as`.
 pub(crate) fn theory_sort(
     sorts: &mut SortStore,
@@ -121,13 +139,5 @@ pub(crate) fn theory_sort(
     let sort = found_sort(sorts, found, args)?;
     has_few_nodes(&sort);
     rank_laws();
-    match asked {
-        None => Ok(sort),
-        Some(asked) => {
-            if !same(&sort, asked) {
-                return Err(fault(Code::WrongQualifiedSort, at));
-            }
-            Ok(sort)
-        }
-    }
+    as_asked(sort, at, asked)
 }

@@ -1,45 +1,33 @@
-use Rattle.std.proofs.Common.{[], ◌∷◌, map, sym, ◌∙◌, Err}
+use Rattle.std.proofs.Common.{◌∙◌, List, map, subst}
 use Rattle.std.specs.Option.{option_map}
+use Rattle.lex_core.specs.declared.token.Tok.{Tok}
 use Rattle.sort_store.specs.Tree.{tree}
-use Rattle.typer.specs.Answers.{head_answer}
-use Rattle.typer.specs.FunctionSymbols.{signature_of, theory}
-use Rattle.typer.proofs.ReadyKept.{grown}
-use Rattle.typer.proofs.HeadSteps.{without_symbol, indexed_means, indexed_unknown_name, indexed_unknown, no_index, zero_index, indexed_step, index_head}
+use Rattle.theory_core.specs.TheorySymbols.{form_of}
+use Rattle.typer.specs.Answers.{Answers, head_answer}
+use Rattle.typer.specs.BitVectors.{bits_form, index_of}
+use Rattle.typer.specs.FunctionSymbols.{bits, if_indexed, signature_of, text_of, theory}
+use Rattle.typer.specs.TermRules.{judge_indexed_function}
+use Rattle.typer.proofs.BitsSteps.{indexed_form}
+use Rattle.typer.proofs.HeadSteps.{indexed_bits_means, indexed_step, indexed_theory_means, is_written, not_written}
 use Rattle.typer.proofs.head.indexed_head.Goals as goal
 
-pub returns-then-not-is_indexed-clause-answer : goal.returns-then-not-is_indexed-clause-answer
-returns-then-not-is_indexed-clause-answer c =
-    indexed_unknown c.args.world.now c.args.name c.args.at (map tree c.args.args.now) (option_map tree c.args.asked.now) c.args.indices.now c.fault.result
-    (indexed_unknown_name c.args.world.now c.args.name c.text_of-text.result.now c.text_of-text.ensures c.is_indexed.result c.is_indexed.ensures c.if-not-is_indexed.true) c.fault.ensures
+pub returns-then-is_indexed-clause-answer : goal.returns-then-is_indexed-clause-answer
+returns-then-is_indexed-clause-answer c =
+    indexed_step c.args.world.now c.args.name c.args.at (map tree c.args.args.now) (option_map tree c.args.asked.now) c.args.indices.now (theory (text_of (signature_of c.args.world.now) c.args.name)) (head_answer c.divisible_head.result)
+    (indexed_theory_means c.args.world.now c.args.name c.args.at (map tree c.args.args.now) (option_map tree c.args.asked.now) c.args.indices.now
+    (is_written if_indexed (form_of c.args.world.now.theories) c.text_of-text.result.now (text_of (signature_of c.args.world.now) c.args.name) c.text_of-text.ensures c.theory_form.result c.theory_form.ensures c.is_indexed.result c.is_indexed.ensures (theory (text_of (signature_of c.args.world.now) c.args.name)) c.if-is_indexed.true))
+    c.divisible_head.ensures.answer
 
-pub returns-in_default-clause-answer : goal.returns-in_default-clause-answer
-returns-in_default-clause-answer c =
-    no_index c.args.world.now c.args.name c.args.at (map tree c.args.args.now) (option_map tree c.args.asked.now) c.args.indices.now (theory c.text_of-text.result.now) c.fault-in_default.result
-    (indexed_means c.args.world.now c.args.name c.text_of-text.result.now c.text_of-text.ensures c.is_indexed.result c.is_indexed.ensures c.if-not-is_indexed.false) (sym c.only_numeral.ensures ∙ c.in_default.is) c.fault-in_default.ensures
+pub bits_head-requires-clause-written : goal.bits_head-requires-clause-written
+bits_head-requires-clause-written c =
+    indexed_form _ (bits (text_of (signature_of c.args.world.now) c.args.name) (map (index_of c.args.world.now.names) c.args.indices.now))
+    (is_written if_indexed (bits_form c.args.world.now.theories) c.text_of-text.result.now (text_of (signature_of c.args.world.now) c.args.name) c.text_of-text.ensures c.bits_form.result c.bits_form.ensures c.is_indexed-2.result c.is_indexed-2.ensures (bits (text_of (signature_of c.args.world.now) c.args.name) (map (index_of c.args.world.now.names) c.args.indices.now)) c.if-is_indexed-2.true)
 
-pub returns-then-is_text-clause-answer : goal.returns-then-is_text-clause-answer
-returns-then-is_text-clause-answer c =
-    zero_index c.args.world.now c.args.name c.args.at (map tree c.args.args.now) (option_map tree c.args.asked.now) c.args.indices.now (theory c.text_of-text.result.now) c.in-Some.index c.fault-then-is_text.result
-    (indexed_means c.args.world.now c.args.name c.text_of-text.result.now c.text_of-text.ensures c.is_indexed.result c.is_indexed.ensures c.if-not-is_indexed.false) (sym c.only_numeral.ensures ∙ c.in-Some.is)
-    (sym c.is_text.ensures ∙ c.if-is_text.true) c.fault-then-is_text.ensures
-
-pub returns-in-Ok-clause-answer : goal.returns-in-Ok-clause-answer
-returns-in-Ok-clause-answer c =
-    indexed_step c.args.world.now c.args.name c.args.at (map tree c.args.args.now) (option_map tree c.args.asked.now) c.args.indices.now (theory c.text_of-text.result.now) c.in-Some.index (head_answer c.with_index.result)
-    (indexed_means c.args.world.now c.args.name c.text_of-text.result.now c.text_of-text.ensures c.is_indexed.result c.is_indexed.ensures c.if-not-is_indexed.false) (sym c.only_numeral.ensures ∙ c.in-Some.is)
-    (sym c.is_text.ensures ∙ c.if-is_text.false)
-    (index_head c.with_index.result c.theory_symbol.result (theory c.text_of-text.result.now) c.args.name c.in-Some.index.name c.in-Ok.sort (signature_of c.args.world.now) c.args.at (map tree c.args.args.now) (option_map tree c.args.asked.now)
-    c.with_index.ensures.symbol c.with_index.ensures.sort c.with_index.ensures.err (c.theory_symbol.ensures.symbol c.text_of-text.result.now) c.theory_symbol.ensures.sort c.in-Ok.ensures.answer)
-
-pub returns-in-Err-clause-answer : goal.returns-in-Err-clause-answer
-returns-in-Err-clause-answer c =
-    indexed_step c.args.world.now c.args.name c.args.at (map tree c.args.args.now) (option_map tree c.args.asked.now) c.args.indices.now (theory c.text_of-text.result.now) c.in-Some.index (Err c.in-Err.error)
-    (indexed_means c.args.world.now c.args.name c.text_of-text.result.now c.text_of-text.ensures c.is_indexed.result c.is_indexed.ensures c.if-not-is_indexed.false) (sym c.only_numeral.ensures ∙ c.in-Some.is)
-    (sym c.is_text.ensures ∙ c.if-is_text.false)
-    (without_symbol (signature_of c.args.world.now) (theory c.text_of-text.result.now) c.args.at (map tree c.args.args.now) (option_map tree c.args.asked.now) c.args.name (c.in-Some.index.name ∷ []) c.in-Err.error c.in-Err.ensures.answer)
-
-pub returns-in-Ok-clause-ready : goal.returns-in-Ok-clause-ready
-returns-in-Ok-clause-ready c = grown c.args.world.now c.theory_sort.new.sorts c.in-Ok.ensures.grows c.in-Ok.ensures.distinct c.requires.ready
-
-pub returns-in-Err-clause-ready : goal.returns-in-Err-clause-ready
-returns-in-Err-clause-ready c = grown c.args.world.now c.theory_sort.new.sorts c.in-Err.ensures.grows c.in-Err.ensures.distinct c.requires.ready
+pub returns-then-is_indexed-2-clause-answer : goal.returns-then-is_indexed-2-clause-answer
+returns-then-is_indexed-2-clause-answer c =
+    indexed_step c.args.world.now c.args.name c.args.at (map tree c.args.args.now) (option_map tree c.args.asked.now) c.args.indices.now (bits (text_of (signature_of c.args.world.now) c.args.name) (map (index_of c.args.world.now.names) c.args.indices.now)) (head_answer c.bits_head.result)
+    (indexed_bits_means c.args.world.now c.args.name c.args.at (map tree c.args.args.now) (option_map tree c.args.asked.now) c.args.indices.now
+    (not_written if_indexed (form_of c.args.world.now.theories) c.text_of-text.result.now (text_of (signature_of c.args.world.now) c.args.name) c.text_of-text.ensures c.theory_form.result c.theory_form.ensures c.is_indexed.result c.is_indexed.ensures (theory (text_of (signature_of c.args.world.now) c.args.name)) c.if-is_indexed.false)
+    (is_written if_indexed (bits_form c.args.world.now.theories) c.text_of-text.result.now (text_of (signature_of c.args.world.now) c.args.name) c.text_of-text.ensures c.bits_form.result c.bits_form.ensures c.is_indexed-2.result c.is_indexed-2.ensures (bits (text_of (signature_of c.args.world.now) c.args.name) (map (index_of c.args.world.now.names) c.args.indices.now)) c.if-is_indexed-2.true))
+    (subst (λ (is : List Tok). Answers (head_answer c.bits_head.result) (judge_indexed_function (signature_of c.args.world.now) (bits (text_of (signature_of c.args.world.now) c.args.name) (map (index_of c.args.world.now.names) is)) c.args.at (map tree c.args.args.now) (option_map tree c.args.asked.now) c.args.name is))
+    (c.deref.ensures.value ∙ c.in_ok-toks.ensures.ok) c.bits_head.ensures.answer)

@@ -8,14 +8,13 @@ use Rattle.term_store.specs.Interned.{AreNotesInterned}
 use Rattle.term_store.specs.NumberedNodes.{numbered_notes}
 use Rattle.term_store.specs.Term.{PlainTerm, plain_var, tree}
 use Rattle.sig_table.specs.declared.code.Code.TheVariants.{WrongTermSort}
-use Rattle.typer.specs.Answers.{Meets, note_answer, typed_answer}
+use Rattle.typer.specs.Answers.{Meets, fault_at, note_answer, typed_answer}
 use Rattle.typer.specs.FunctionSymbols.{signature_of}
 use Rattle.typer.specs.declared.typed.TypedBinding.{TypedBinding}
 use Rattle.typer.specs.TermRules.{annotated_term, bound_sort, identifier_of, judge_bindings, judge_literal, judge_note, judge_notes, judge_quantifier, judge_constant, judge_term, judge_terms, judge_variables, let_term, quantified}
 use Rattle.typer.specs.Typed.{AreBound, AreTypedBindings, binding_tree, bound_variable, plain_note}
 use Rattle.typer.proofs.BinderSteps.{annotated_fails, annotated_is, annotation_fails, any_name, binding_fails, binding_repeated, binding_step, inner_variables, let_bindings_fail, let_body_fails, let_is, named_is, other_is, pattern_fails, pattern_is, quantifier_body_fails, quantifier_is, quantifier_of_other, quantifier_variables, quantifier_variables_fail}
 use Rattle.typer.proofs.ListSteps.{leads_end, part_step, part_fault, no_part}
-use Rattle.typer.proofs.RankAnswers.{fault_at}
 use Rattle.typer.proofs.SymbolSteps.{applied_is, applied_fails, application_moved, asked_fails, body_moved, made_meets, moved}
 use Rattle.typer.proofs.TermKinds.{of_annotated, of_constant, of_exists, of_forall, of_let, of_qualified}
 use Rattle.typer.proofs.TermSteps.{sizes, bindings_size, notes_size, left, left_is, bindings_left, bindings_left_is, meets, notes_left, notes_left_is, joins_terms, joins_notes, none_left, no_bindings_left, no_notes_left}
