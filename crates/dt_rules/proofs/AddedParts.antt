@@ -10,11 +10,8 @@ use Rattle.sort_store.specs.Interned.{IsInterned, AllInterned, AreInterned}
 use Rattle.sort_store.specs.Tree.{Sort, sort, SortList, more_sorts, sorts, NumberedSort, node, NumberedSorts, no_nodes, more_nodes, node_list, tree, trees, parts}
 use Rattle.sort_store.specs.Tree.{head as head_of}
 use Rattle.sort_store.proofs.GrownStores.{nodes-node_list}
-use Rattle.term_store.specs.declared.command.Constructor.{Constructor}
-use Rattle.term_store.specs.declared.command.Datatype.{Datatype}
-use Rattle.term_store.specs.declared.command.Field.{Field}
-use Rattle.term_store.specs.Definitions.{Definitions, datatype_in}
-use Rattle.dt_rules.specs.Groups.{known, mentions, own_sort, sort_list, IsConstructorFieldSort, IsOwnSort, IsReadyGroup, HasArities}
+use Rattle.term_store.specs.Command.{PlainField, PlainConstructor, PlainDatatype}
+use Rattle.dt_rules.specs.Groups.{known, mentions, numbered, own_sort, sort_list, IsConstructorFieldSort, IsOwnSort, IsReadyGroup, HasArities}
 use Rattle.dt_rules.specs.Unfolding.{Adds, IsAddedBy, IsMember, own, added}
 use Rattle.dt_rules.specs.Worklist.{AreMembers, Extends, Gains, Unfolds}
 use Rattle.dt_rules.specs.declared.error.DtError.{DtError}
@@ -49,7 +46,7 @@ args_are (node n k rs) h args e = sym (list_of_sorts args) ∙ (ap sort_list (sy
 pub parts_interned : (store : List Sort) (r : NumberedSort) (args : List NumberedSort) → args ≡ parts r → IsInterned store r → AllInterned store args
 parts_interned store (node n h rs) args e k = subst (AllInterned store) (sym e) (subst (AreInterned store) (sym (nodes-node_list rs)) k.1)
 
-module _ (ts group : List Datatype) (r : NumberedSort) (args : List NumberedSort) (same : args ≡ parts r) where
+module _ (ts group : List PlainDatatype) (r : NumberedSort) (args : List NumberedSort) (same : args ≡ parts r) where
   pub member_adds : (s : Sort) → IsMember ts group (tree r) → IsAddedBy ts group r s → IsMember ts group s
   member_adds s m a = added (head_of r) (map tree (parts r)) s (subst (IsMember ts group) (as_sort r) m) (subst (λ z. mentions group z ≡ true) (as_sort r) a.0) a.1
 
@@ -59,30 +56,30 @@ module _ (ts group : List Datatype) (r : NumberedSort) (args : List NumberedSort
   pub array_members : head_of r ≡ head.Array → mentions group (tree r) ≡ true → IsMember ts group (tree r) → (s : Sort) → Contains (map tree args) s → IsMember ts group s
   array_members e t m s c = member_adds s m (t, subst (λ h. Adds ts h (map tree (parts r)) s) (sym e) (subst (λ z. Contains (map tree z) s) same c))
 
-  module _ (d : DeclNo) (n : ℕ) (t : Datatype) (cs : List Constructor) (e : head_of r ≡ head.Data d n) (found : datatype_in ts d.0 ≡ Some t) (all : cs ≡ t.constructors) where
+  module _ (d : DeclNo) (n : ℕ) (t : PlainDatatype) (cs : List PlainConstructor) (e : head_of r ≡ head.Data d n) (found : numbered ts d.0 ≡ Some t) (all : cs ≡ t.constructors) where
     pub data_adds : (s : Sort) → IsAddedBy ts group r s → IsConstructorFieldSort cs (map tree args) s
     data_adds s a =
         let p = subst (λ h. Adds ts h (map tree (parts r)) s) e a.1 in
         let it : p.0 ≡ t = some_same p.0 t (sym p.1 ∙ found) in
-        subst (λ z. IsConstructorFieldSort z (map tree args) s) (ap (λ (z : Datatype). z.constructors) it ∙ sym all) (subst (λ z. IsConstructorFieldSort p.0.constructors (map tree z) s) (sym same) p.2)
+        subst (λ z. IsConstructorFieldSort z (map tree args) s) (ap (λ (z : PlainDatatype). z.constructors) it ∙ sym all) (subst (λ z. IsConstructorFieldSort p.0.constructors (map tree z) s) (sym same) p.2)
 
     pub data_members : mentions group (tree r) ≡ true → IsMember ts group (tree r) → (s : Sort) → IsConstructorFieldSort cs (map tree args) s → IsMember ts group s
     data_members test m s f =
         member_adds s m (test, subst (λ h. Adds ts h (map tree (parts r)) s) (sym e) (t, found, subst (λ z. IsConstructorFieldSort z (map tree (parts r)) s) all (subst (λ z. IsConstructorFieldSort cs (map tree z) s) same f)))
 
 -- what the parameters of the fields are
-pub data_params : (kept : Definitions) (group : List Datatype) (ready : IsReadyGroup kept group) (r : NumberedSort) (args : List NumberedSort) (d : DeclNo) (n : ℕ) (t : Datatype) (cs : List Constructor)
-    → args ≡ parts r → head_of r ≡ head.Data d n → datatype_in (known kept group) d.0 ≡ Some t → cs ≡ t.constructors → IsMember (known kept group) group (tree r)
-    → (c : Constructor) (f : Field) → Contains cs c → Contains c.fields f → ParamsBelow (length args) (tree f.sort)
+pub data_params : (kept group : List PlainDatatype) (ready : IsReadyGroup kept group) (r : NumberedSort) (args : List NumberedSort) (d : DeclNo) (n : ℕ) (t : PlainDatatype) (cs : List PlainConstructor)
+    → args ≡ parts r → head_of r ≡ head.Data d n → numbered (known kept group) d.0 ≡ Some t → cs ≡ t.constructors → IsMember (known kept group) group (tree r)
+    → (c : PlainConstructor) (f : PlainField) → Contains cs c → Contains c.fields f → ParamsBelow (length args) f.sort
 data_params kept group ready r args d n t cs same e found all m c f in_cs in_c =
     let ts = known kept group in
     let has = subst (HasArities ts) (as_sort r ∙ ap (λ h. sort h (sorts (map tree (parts r)))) e) (member_has kept group ready (tree r) m) in
     let u = has.0 in
     let it : u.0 ≡ t = some_same u.0 t (sym u.1 ∙ found) in
     let count : length t.params ≡ length args =
-    ap (λ (z : Datatype). length z.params) (sym it) ∙ (u.2 ∙ (ap length (list_of_sorts (map tree (parts r))) ∙ (length-map (parts r) tree ∙ ap length (sym same)))) in
+    ap (λ (z : PlainDatatype). length z.params) (sym it) ∙ (u.2 ∙ (ap length (list_of_sorts (map tree (parts r))) ∙ (length-map (parts r) tree ∙ ap length (sym same)))) in
     let field = ready.fields t c f (found_contained ts d.0 t found) (subst (λ z. Contains z c) all in_cs) in_c in
-    subst (λ z. ParamsBelow z (tree f.sort)) count field.params
+    subst (λ z. ParamsBelow z f.sort) count field.params
 
 -- The list of the members.
 
@@ -91,7 +88,7 @@ get_front [] more k d l = absurd (omega (arith, l))
 get_front (r ∷ old) more zero d l = refl
 get_front (r ∷ old) more (suc k) d l = get_front old more k d (omega (arith, l))
 
-abbrev pub IsClosedTo : List Datatype → List Datatype → List NumberedSort → ℕ → Type 0
+abbrev pub IsClosedTo : List PlainDatatype → List PlainDatatype → List NumberedSort → ℕ → Type 0
 IsClosedTo ts group rs n = (k : ℕ) (d : NumberedSort) → k < n → k < length rs → (s : Sort) → IsAddedBy ts group (get_or rs k d) s → Contains (map tree rs) s
 
 pub get_any : (rs : List NumberedSort) (k : ℕ) (d e : NumberedSort) → k < length rs → get_or rs k d ≡ get_or rs k e
@@ -105,7 +102,7 @@ split_last zero (suc n) l = inl (omega arith)
 split_last (suc k) zero l = absurd (omega (arith, l))
 split_last (suc k) (suc n) l = elim (split_last k n (omega (arith, l))) [ inl a ↦ inl (omega (arith, a)) | inr e ↦ inr (ap suc e) ]
 
-module _ (ts group : List Datatype) where
+module _ (ts group : List PlainDatatype) where
   pub closed_step : (old new : List NumberedSort) (n : ℕ) (r : NumberedSort) → Extends old new → n < length old → r ≡ get_or old n r → IsClosedTo ts group old n
       → ((s : Sort) → IsAddedBy ts group r s → Contains (map tree new) s) → IsClosedTo ts group new (n + 1)
   closed_step old new n r ext l at closed adds = λ k d below within s a. elim (split_last k n below) [

@@ -3,7 +3,7 @@ use Rattle.std.proofs.Common.{◌≡◌, ℕ, zero, suc, ◌+◌, ◌<◌, ◌�
 use Rattle.std.specs.Prelude.{OnOk}
 use Rattle.std.specs.Result.{IsErrOf}
 use Rattle.std.specs.List.{Contains}
-use Rattle.std.proofs.lemmas.List.{append-nil, length-append, length-map, map-append, take_more, take_all}
+use Rattle.std.proofs.lemmas.List.{append-nil, length-append, length-map, map-append, map_more, take_all}
 use Rattle.std.proofs.lemmas.List.Elements.{Contains-append_left, Contains-push, Contains-push_cases, Contains-get_or}
 use Rattle.sort_store.specs.declared.error.SortError.{SortError}
 use Rattle.sort_store.specs.declared.head.Head.TheVariants as head
@@ -13,6 +13,7 @@ use Rattle.sort_store.specs.Tree.{Sort, sort, no_sorts, sorts, NumberedSort, tre
 use Rattle.sort_store.proofs.GrownStores.{all_interned_grown, all_interned_push}
 use Rattle.sort_store.proofs.InstanceLaws.{all_interned_at}
 use Rattle.sort_store.proofs.InternedSorts.{distinct_push}
+use Rattle.term_store.specs.Command.{PlainConstructor, PlainDatatype, PlainField, plain_constructor, plain_datatype, plain_field}
 use Rattle.term_store.specs.declared.command.Constructor.{Constructor}
 use Rattle.term_store.specs.declared.command.Datatype.{Datatype}
 use Rattle.term_store.specs.declared.command.Field.{Field}
@@ -21,6 +22,7 @@ use Rattle.dt_rules.specs.declared.error.DtError.TheVariants as error
 use Rattle.dt_rules.specs.Groups.{param_sorts, own_sort, IsOwnSort, IsFieldSort, IsConstructorFieldSort}
 use Rattle.dt_rules.specs.Unfolding.{IsMember, own, IsTooWide}
 use Rattle.dt_rules.specs.Worklist.{AreMembers, Extends, HasAdded, HasGained, Gains}
+use Rattle.dt_rules.proofs.Lists.{contains_map}
 
 -- Lists that are filled in a loop.
 
@@ -50,10 +52,10 @@ param_nodes : (n : ℕ) → nodes_count (sorts (param_sorts n)) ≡ n
 param_nodes zero = refl
 param_nodes (suc n) = omega (arith, nodes-append (param_sorts n) (sort (head.Param n) no_sorts ∷ []), param_nodes n)
 
-pub own_size : (t : Datatype) → node_count (own_sort t) ≡ length t.params + 1
+pub own_size : (t : PlainDatatype) → node_count (own_sort t) ≡ length t.params + 1
 own_size t = omega (arith, param_nodes (length t.params))
 
-pub own_large : (t : Datatype) (ps : List ℕ) → ps ≡ t.params → 1000 ≤ length ps → 1000 < node_count (own_sort t)
+pub own_large : (t : PlainDatatype) (ps : List ℕ) → ps ≡ t.params → 1000 ≤ length ps → 1000 < node_count (own_sort t)
 own_large t ps e l = omega (arith, own_size t, ap length e, l)
 
 -- Members.
@@ -69,7 +71,7 @@ not_large r n h = within n 1000 (λ l. by (h.1 l))
     by : Ok r ≡ Err SortError.TooLarge → ⊥
     by e = cc
 
-module _ (ts group : List Datatype) where
+module _ (ts group : List PlainDatatype) where
   pub members_grown : (before after : List Sort) (rs : List NumberedSort) → Grows before after → AreMembers ts group before rs → AreMembers ts group after rs
   members_grown before after rs g h =
       record { interned = all_interned_grown before after rs g h.interned; members = h.members; distinct = h.distinct; few = h.few; small = h.small }
@@ -143,81 +145,77 @@ module _ (ts group : List Datatype) where
     has = λ s r. elim (f s r) [ inl a ↦ still_has mid new s q.more (p.has s a) | inr b ↦ q.has s b ];
   }
 
--- the sorts of the fields so far, and of one more
-pub no_field : (fs : List Field) (args : List Sort) (s : Sort) → IsFieldSort (take 0 fs) args s → ⊥
-no_field fs args s (f, c, e) = omega (arith, c.1)
-
-pub field_more : (fs : List Field) (args : List Sort) (k : ℕ) (f : Field) → k < length fs → f ≡ get_or fs k f → (s : Sort) → IsFieldSort (take (k + 1) fs) args s → IsFieldSort (take k fs) args s ⊎ (s ≡ inst args (tree f.sort))
-field_more fs args k f l at s (g, c, e) =
-    elim (Contains-push_cases (take k fs) (get_or fs k f) g (subst (λ z. Contains z g) (take_more fs k f l) c)) [
-      | inl d ↦ inl (g, d, e)
-      | inr same ↦ inr (e ∙ ap (λ (z : Field). inst args (tree z.sort)) (sym same ∙ sym at))
-    ]
-
+-- an item at a place, in the list and where each item is replaced
 pub element : {X : Type 0} (xs : List X) (k : ℕ) (x : X) → k < length xs → x ≡ get_or xs k x → Contains xs x
 element xs k x l at = subst (Contains xs) (sym at) (Contains-get_or xs k x l)
 
-pub all_fields : (fs : List Field) (args : List Sort) (k : ℕ) → length fs ≤ k → (s : Sort) → IsFieldSort fs args s → IsFieldSort (take k fs) args s
-all_fields fs args k l s (f, has, e) = (f, subst (λ z. Contains z f) (sym (take_all k fs l)) has, e)
+pub mapped : {X Y : Type 0} (f : X → Y) (xs : List X) (k : ℕ) (x : X) → k < length xs → x ≡ get_or xs k x → Contains (map f xs) (f x)
+mapped f xs k x l at = contains_map f xs x (element xs k x l at)
 
--- .. and so for the constructors
-pub no_constructor : (cs : List Constructor) (args : List Sort) (s : Sort) → IsConstructorFieldSort (take 0 cs) args s → ⊥
-no_constructor cs args s (c, has, f) = omega (arith, has.1)
-
-pub constructor_more : (cs : List Constructor) (args : List Sort) (k : ℕ) (c : Constructor) → k < length cs → c ≡ get_or cs k c → (s : Sort) → IsConstructorFieldSort (take (k + 1) cs) args s
-    → IsConstructorFieldSort (take k cs) args s ⊎ IsFieldSort c.fields args s
-constructor_more cs args k c l at s (d, has, f) =
-    elim (Contains-push_cases (take k cs) (get_or cs k c) d (subst (λ z. Contains z d) (take_more cs k c l) has)) [
-      | inl h ↦ inl (d, h, f)
-      | inr same ↦ inr (subst (λ (z : Constructor). IsFieldSort z.fields args s) (sym same ∙ sym at) f)
+-- what is among the items so far and one more
+pub mapped_cases : {X Y : Type 0} (f : X → Y) (xs : List X) (k : ℕ) (x : X) (y : Y) → k < length xs → x ≡ get_or xs k x → Contains (map f (take (k + 1) xs)) y → Contains (map f (take k xs)) y ⊎ (y ≡ f x)
+mapped_cases f xs k x y l at c =
+    elim (Contains-push_cases (map f (take k xs)) (f (get_or xs k x)) y (subst (λ z. Contains z y) (map_more f xs k x l) c)) [
+      | inl d ↦ inl d
+      | inr same ↦ inr (sym same ∙ sym (ap f at))
     ]
 
-pub all_constructors : (cs : List Constructor) (args : List Sort) (k : ℕ) → length cs ≤ k → (s : Sort) → IsConstructorFieldSort cs args s → IsConstructorFieldSort (take k cs) args s
-all_constructors cs args k l s (c, has, f) = (c, subst (λ z. Contains z c) (sym (take_all k cs l)) has, f)
+pub mapped_all : {X Y : Type 0} (f : X → Y) (xs : List X) (k : ℕ) (y : Y) → length xs ≤ k → Contains (map f xs) y → Contains (map f (take k xs)) y
+mapped_all f xs k y l c = subst (λ z. Contains (map f z) y) (sym (take_all k xs l)) c
+
+-- the sorts of the fields so far, and of one more
+pub no_field : (fs : List Field) (args : List Sort) (s : Sort) → IsFieldSort (map plain_field (take 0 fs)) args s → ⊥
+no_field fs args s (f, c, e) = omega (arith, c.1)
+
+pub field_more : (fs : List Field) (args : List Sort) (k : ℕ) (f : Field) → k < length fs → f ≡ get_or fs k f → (s : Sort) → IsFieldSort (map plain_field (take (k + 1) fs)) args s
+    → IsFieldSort (map plain_field (take k fs)) args s ⊎ (s ≡ inst args (tree f.sort))
+field_more fs args k f l at s (g, c, e) = elim (mapped_cases plain_field fs k f g l at c) [ inl d ↦ inl (g, d, e) | inr same ↦ inr (e ∙ ap (λ (z : PlainField). inst args z.sort) same) ]
+
+pub all_fields : (fs : List Field) (args : List Sort) (k : ℕ) → length fs ≤ k → (s : Sort) → IsFieldSort (map plain_field fs) args s → IsFieldSort (map plain_field (take k fs)) args s
+all_fields fs args k l s (f, has, e) = (f, mapped_all plain_field fs k f l has, e)
+
+-- .. and so for the constructors
+pub no_constructor : (cs : List Constructor) (args : List Sort) (s : Sort) → IsConstructorFieldSort (map plain_constructor (take 0 cs)) args s → ⊥
+no_constructor cs args s (c, has, f) = omega (arith, has.1)
+
+pub constructor_more : (cs : List Constructor) (args : List Sort) (k : ℕ) (c : Constructor) → k < length cs → c ≡ get_or cs k c → (s : Sort) → IsConstructorFieldSort (map plain_constructor (take (k + 1) cs)) args s
+    → IsConstructorFieldSort (map plain_constructor (take k cs)) args s ⊎ IsFieldSort (map plain_field c.fields) args s
+constructor_more cs args k c l at s (d, has, f) = elim (mapped_cases plain_constructor cs k c d l at has) [ inl h ↦ inl (d, h, f) | inr same ↦ inr (subst (λ (z : PlainConstructor). IsFieldSort z.fields args s) same f) ]
+
+pub all_constructors : (cs : List Constructor) (args : List Sort) (k : ℕ) → length cs ≤ k → (s : Sort) → IsConstructorFieldSort (map plain_constructor cs) args s → IsConstructorFieldSort (map plain_constructor (take k cs)) args s
+all_constructors cs args k l s (c, has, f) = (c, mapped_all plain_constructor cs k c l has, f)
 
 -- .. and so for the sorts of a list
 pub no_sort : (rs : List NumberedSort) (s : Sort) → Contains (map tree (take 0 rs)) s → ⊥
 no_sort rs s c = omega (arith, c.1)
 
 pub sort_more : (rs : List NumberedSort) (k : ℕ) (r : NumberedSort) → k < length rs → r ≡ get_or rs k r → (s : Sort) → Contains (map tree (take (k + 1) rs)) s → Contains (map tree (take k rs)) s ⊎ (s ≡ tree r)
-sort_more rs k r l at s c =
-    elim (Contains-push_cases (map tree (take k rs)) (tree (get_or rs k r)) s (subst (λ z. Contains z s) (ap (map tree) (take_more rs k r l) ∙ map-append tree (take k rs) (get_or rs k r ∷ [])) c)) [
-      | inl d ↦ inl d
-      | inr same ↦ inr (sym same ∙ sym (ap tree at))
-    ]
-
-contains_map : (rs : List NumberedSort) (r : NumberedSort) → Contains rs r → Contains (map tree rs) (tree r)
-contains_map [] r c = absurd (omega (arith, c.1))
-contains_map (x ∷ rs) r (zero, l, e) = (0, omega arith, ap tree e)
-contains_map (x ∷ rs) r (suc k, l, e) = let h = contains_map rs r (k, omega (arith, l), e) in (suc h.0, omega (arith, h.1), h.2)
+sort_more rs k r l at s c = mapped_cases tree rs k r s l at c
 
 pub sort_at : (rs : List NumberedSort) (k : ℕ) (r : NumberedSort) → k < length rs → r ≡ get_or rs k r → Contains (map tree rs) (tree r)
-sort_at rs k r l at = contains_map rs r (element rs k r l at)
+sort_at rs k r l at = mapped tree rs k r l at
 
 pub all_sorts : (rs : List NumberedSort) (k : ℕ) → length rs ≤ k → (s : Sort) → Contains (map tree rs) s → Contains (map tree (take k rs)) s
-all_sorts rs k l s c = subst (λ z. Contains (map tree z) s) (sym (take_all k rs l)) c
+all_sorts rs k l s c = mapped_all tree rs k s l c
 
 pub interned_copy : (store : List Sort) (rs : List NumberedSort) (k : ℕ) (r copy : NumberedSort) → AllInterned store rs → k < length rs → r ≡ get_or rs k r → copy ≡ r → IsInterned store copy
 interned_copy store rs k r copy h l at same = subst (IsInterned store) (sym (same ∙ at)) (all_interned_at store rs k r l h)
 
-pub gained_ok : (ts group : List Datatype) (P : Sort → Type 0) (result : Result (Unit {0}) DtError) (store : List Sort) (old new : List NumberedSort) (u : Unit {0}) → result ≡ Ok u → Gains result ts group P store old new
+pub gained_ok : (ts group : List PlainDatatype) (P : Sort → Type 0) (result : Result (Unit {0}) DtError) (store : List Sort) (old new : List NumberedSort) (u : Unit {0}) → result ≡ Ok u → Gains result ts group P store old new
     → HasGained ts group P store old new
 gained_ok ts group P result store old new u is g = subst (λ z. Gains z ts group P store old new) is g
 
-pub gains_failed : (ts group : List Datatype) (P : Sort → Type 0) (result : Result (Unit {0}) DtError) (store : List Sort) (old new : List NumberedSort) (e : DtError) → result ≡ Err e → Gains result ts group P store old new
+pub gains_failed : (ts group : List PlainDatatype) (P : Sort → Type 0) (result : Result (Unit {0}) DtError) (store : List Sort) (old new : List NumberedSort) (e : DtError) → result ≡ Err e → Gains result ts group P store old new
     → Gains (Err e) ts group P store old new
 gains_failed ts group P result store old new e is g = subst (λ z. Gains z ts group P store old new) is g
 
 -- the own sorts of the datatypes so far, and of one more
-pub own_more : (ts : List Datatype) (k : ℕ) (t : Datatype) → k < length ts → t ≡ get_or ts k t → (s : Sort) → IsOwnSort (take (k + 1) ts) s → IsOwnSort (take k ts) s ⊎ (s ≡ own_sort t)
-own_more ts k t l at s (u, has, e) =
-    elim (Contains-push_cases (take k ts) (get_or ts k t) u (subst (λ z. Contains z u) (take_more ts k t l) has)) [
-      | inl d ↦ inl (u, d, e)
-      | inr same ↦ inr (e ∙ ap own_sort (sym same ∙ sym at))
-    ]
+pub own_more : (ts : List Datatype) (k : ℕ) (t : Datatype) → k < length ts → t ≡ get_or ts k t → (s : Sort) → IsOwnSort (map plain_datatype (take (k + 1) ts)) s
+    → IsOwnSort (map plain_datatype (take k ts)) s ⊎ (s ≡ own_sort (plain_datatype t))
+own_more ts k t l at s (u, has, e) = elim (mapped_cases plain_datatype ts k t u l at has) [ inl d ↦ inl (u, d, e) | inr same ↦ inr (e ∙ ap own_sort same) ]
 
-pub all_own : (ts : List Datatype) (k : ℕ) → length ts ≤ k → (s : Sort) → IsOwnSort ts s → IsOwnSort (take k ts) s
-all_own ts k l s (t, has, e) = (t, subst (λ z. Contains z t) (sym (take_all k ts l)) has, e)
+pub all_own : (ts : List Datatype) (k : ℕ) → length ts ≤ k → (s : Sort) → IsOwnSort (map plain_datatype ts) s → IsOwnSort (map plain_datatype (take k ts)) s
+all_own ts k l s (t, has, e) = (t, mapped_all plain_datatype ts k t l has, e)
 
-pub own_member : (ts group : List Datatype) (t : Datatype) → Contains group t → IsMember ts group (own_sort t)
+pub own_member : (ts group : List PlainDatatype) (t : PlainDatatype) → Contains group t → IsMember ts group (own_sort t)
 own_member ts group t c = own t c

@@ -1,8 +1,22 @@
--- Sorts in lists, by their trees.
-use Rattle.std.proofs.Common.{◌≡◌, ℕ, zero, suc, ◌<◌, ◌≤◌, List, [], ◌∷◌, length, map, get_or, ap, sym, ◌∙◌, refl, arith}
+-- Lists in which each item is replaced, and sorts in lists, by their trees.
+use Rattle.std.proofs.Common.{◌≡◌, ◌||◌, Bool, ℕ, zero, suc, ◌<◌, ◌≤◌, List, [], ◌∷◌, length, map, get_or, ap, sym, ◌∙◌, refl, arith}
 use Rattle.std.proofs.lemmas.List.{length-map}
-use Rattle.std.specs.List.{Contains}
+use Rattle.std.specs.List.{Contains, list_any}
 use Rattle.sort_store.specs.Tree.{Sort, NumberedSort, tree}
+
+pub contains_map : {X Y : Type 0} (f : X → Y) (xs : List X) (x : X) → Contains xs x → Contains (map f xs) (f x)
+contains_map f [] x c = absurd (omega (arith, c.1))
+contains_map f (y ∷ xs) x (zero, l, e) = (0, omega arith, ap f e)
+contains_map f (y ∷ xs) x (suc k, l, e) = let h = contains_map f xs x (k, omega (arith, l), e) in (suc h.0, omega (arith, h.1), h.2)
+
+pub map_contains : {X Y : Type 0} (f : X → Y) (xs : List X) (y : Y) → Contains (map f xs) y → (x : X) × Contains xs x × (f x ≡ y)
+map_contains f [] y c = absurd (omega (arith, c.1))
+map_contains f (x ∷ xs) y (zero, l, e) = (x, (0, omega arith, refl), e)
+map_contains f (x ∷ xs) y (suc k, l, e) = let (z, c, same) = map_contains f xs y (k, omega (arith, l), e) in (z, (suc c.0, omega (arith, c.1), c.2), same)
+
+pub any_map : {X Y : Type 0} (f : X → Y) (p : Y → Bool) (xs : List X) → list_any p (map f xs) ≡ list_any (λ x. p (f x)) xs
+any_map f p [] = refl
+any_map f p (x ∷ xs) = ap (λ b. p (f x) || b) (any_map f p xs)
 
 pub map_at : (rs : List NumberedSort) (k : ℕ) (d : NumberedSort) (s : Sort) → k < length rs → get_or (map tree rs) k s ≡ tree (get_or rs k d)
 map_at [] k d s l = absurd (omega (arith, l))

@@ -5,10 +5,9 @@ use Rattle.std.specs.List.{Contains}
 use Rattle.sort_store.specs.declared.head.Head.{Head}
 use Rattle.sort_store.specs.declared.head.Head.TheVariants as head
 use Rattle.sort_store.specs.Instance.{inst, insts, param_of, value_or, IsBelow, ParamsBelow, EachParamsBelow}
-use Rattle.sort_store.specs.Tree.{Sort, sort, SortList, no_sorts, more_sorts, sorts, tree}
-use Rattle.term_store.specs.declared.command.Datatype.{Datatype}
-use Rattle.term_store.specs.Definitions.{Definitions, datatype_in}
-use Rattle.dt_rules.specs.Groups.{known, param_sorts, own_sort, sort_list, HasArity, HasArities, EachHasArities, IsReadyGroup}
+use Rattle.sort_store.specs.Tree.{Sort, sort, SortList, no_sorts, more_sorts, sorts}
+use Rattle.term_store.specs.Command.{PlainDatatype}
+use Rattle.dt_rules.specs.Groups.{known, numbered, param_sorts, own_sort, sort_list, HasArity, HasArities, EachHasArities, IsReadyGroup}
 use Rattle.dt_rules.specs.Unfolding.{IsMember, own, added, Adds}
 
 pub list_of_sorts : (ss : List Sort) → sort_list (sorts ss) ≡ ss
@@ -19,7 +18,7 @@ param_count : (n : ℕ) → length (param_sorts n) ≡ n
 param_count zero = refl
 param_count (suc n) = omega (arith, length-append (param_sorts n) (sort (head.Param n) no_sorts ∷ []), param_count n)
 
-module _ (ts : List Datatype) where
+module _ (ts : List PlainDatatype) where
   each_append : (ss us : List Sort) → EachHasArities ts (sorts ss) → EachHasArities ts (sorts us) → EachHasArities ts (sorts (ss ++ us))
   each_append [] us h k = k
   each_append (s ∷ ss) us h k = (h.0, each_append ss us h.1 k)
@@ -56,29 +55,29 @@ module _ (ts : List Datatype) where
 pub some_same : {X : Type 0} (x y : X) → Some x ≡ Some y → x ≡ y
 some_same x y e = cc
 
-found_step : (x : Datatype) (ts : List Datatype) (t : Datatype) (b : Bool) (rest : Option Datatype) → (rest ≡ Some t → Contains ts t) → (if b then Some x else rest) ≡ Some t → Contains (x ∷ ts) t
+found_step : (x : PlainDatatype) (ts : List PlainDatatype) (t : PlainDatatype) (b : Bool) (rest : Option PlainDatatype) → (rest ≡ Some t → Contains ts t) → (if b then Some x else rest) ≡ Some t → Contains (x ∷ ts) t
 found_step x ts t true rest f e = (0, omega arith, some_same x t e)
 found_step x ts t false rest f e = let h = f e in (suc h.0, omega (arith, h.1), h.2)
 
 -- what is found is among the datatypes
-pub found_contained : (ts : List Datatype) (n : ℕ) (t : Datatype) → datatype_in ts n ≡ Some t → Contains ts t
+pub found_contained : (ts : List PlainDatatype) (n : ℕ) (t : PlainDatatype) → numbered ts n ≡ Some t → Contains ts t
 found_contained [] n t e = cc
-found_contained (x ∷ ts) n t e = found_step x ts t (nat_eq n x.no.0) (datatype_in ts n) (found_contained ts n t) e
+found_contained (x ∷ ts) n t e = found_step x ts t (nat_eq n x.no.0) (numbered ts n) (found_contained ts n t) e
 
-module _ (kept : Definitions) (group : List Datatype) (ready : IsReadyGroup kept group) where
-  abbrev ts : List Datatype
+module _ (kept group : List PlainDatatype) (ready : IsReadyGroup kept group) where
+  abbrev ts : List PlainDatatype
   ts = known kept group
 
-  own_has : (t : Datatype) → Contains group t → HasArities ts (own_sort t)
+  own_has : (t : PlainDatatype) → Contains group t → HasArities ts (own_sort t)
   own_has t c = ((t, ready.apart t c, sym (ap length (list_of_sorts (param_sorts (length t.params))) ∙ param_count (length t.params))), params_have ts (length t.params))
 
   adds_has : (h : Head) (args : List Sort) (s : Sort) → HasArities ts (sort h (sorts args)) → Adds ts h args s → HasArities ts s
   adds_has (head.Data d n) args s has (t, found, (c, in_t, (f, in_c, e))) =
       let u = has.0 in
       let same : u.0 ≡ t = some_same u.0 t (sym u.1 ∙ found) in
-      let count : length t.params ≡ length args = ap (λ (z : Datatype). length z.params) (sym same) ∙ u.2 ∙ ap length (list_of_sorts args) in
+      let count : length t.params ≡ length args = ap (λ (z : PlainDatatype). length z.params) (sym same) ∙ u.2 ∙ ap length (list_of_sorts args) in
       let field = ready.fields t c f (found_contained ts d.0 t found) in_t in_c in
-      subst (HasArities ts) (sym e) (inst_has ts args has.1 (tree f.sort) (subst (λ z. ParamsBelow z (tree f.sort)) count field.params) field.arities)
+      subst (HasArities ts) (sym e) (inst_has ts args has.1 f.sort (subst (λ z. ParamsBelow z f.sort) count field.params) field.arities)
   adds_has head.Array args s has p = each_contained ts args s has.1 p
   adds_has head.Bool args s has p = absurd p
   adds_has head.Int args s has p = absurd p

@@ -2,7 +2,7 @@
 use Rattle.std.proofs.Common.{◌≡◌, ℕ, zero, suc, ◌<◌, ◌≤◌, Bool, true, false, ◌||◌, List, length, Some, refl, ap, sym, ◌∙◌, arith, slice_get}
 use Rattle.std.proofs.lemmas.Option.{slice_get_within}
 use Rattle.sort_store.specs.Tree.{NumberedSort, node, NumberedSorts, no_nodes, more_nodes, node_list, tree, trees, parts, head, node_count, nodes_count}
-use Rattle.term_store.specs.declared.command.Datatype.{Datatype}
+use Rattle.term_store.specs.Command.{PlainDatatype}
 use Rattle.dt_rules.specs.Groups.{is_of_group, mentions, each_mentions}
 
 each_smaller : (rs : NumberedSorts) (i : ℕ) (a : NumberedSort) → slice_get (node_list rs) i ≡ Some a → node_count (tree a) ≤ nodes_count (trees rs)
@@ -13,7 +13,7 @@ each_smaller (more_nodes r rs) (suc i) a e = omega (arith, each_smaller rs i a e
 pub part_smaller : (r a : NumberedSort) (i : ℕ) → slice_get (parts r) i ≡ Some a → node_count (tree a) < node_count (tree r)
 part_smaller (node n h rs) a i e = omega (arith, each_smaller rs i a e)
 
-module _ (group : List Datatype) where
+module _ (group : List PlainDatatype) where
   or_left : (a b : Bool) → a ≡ true → (a || b) ≡ true
   or_left true b e = refl
   or_left false b e = cc

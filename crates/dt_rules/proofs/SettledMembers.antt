@@ -11,10 +11,8 @@ use Rattle.sort_store.specs.Tree.{head as head_of}
 use Rattle.std.specs.Result.{IfOk}
 use Rattle.sort_store.proofs.GrownStores.{get_map}
 use Rattle.sort_store.proofs.InternedSorts.{contains_from_get}
-use Rattle.term_store.specs.declared.command.Constructor.{Constructor}
-use Rattle.term_store.specs.declared.command.Datatype.{Datatype}
-use Rattle.term_store.specs.Definitions.{datatype_in}
-use Rattle.dt_rules.specs.Groups.{mentions}
+use Rattle.term_store.specs.Command.{PlainConstructor, PlainDatatype}
+use Rattle.dt_rules.specs.Groups.{mentions, numbered}
 use Rattle.dt_rules.specs.Unfolding.{Adds, IsMember, IsSettled, outside, free, array, constructed}
 use Rattle.dt_rules.specs.Settling.{HasConstructorWithout, HasElementWithout, SettlesBy, Settles, NoneSettles}
 use Rattle.dt_rules.proofs.AddedParts.{as_sort, args_are, head_is, member_adds}
@@ -43,7 +41,7 @@ ok_same P Q (Err e) f h = tt
 head_from : (r : NumberedSort) (h : Head) (us : SortList) → tree r ≡ sort h us → h ≡ head_of r
 head_from (node n k rs) h us e = cc
 
-module _ (ts group : List Datatype) (unsettled : List Sort) where
+module _ (ts group : List PlainDatatype) (unsettled : List Sort) where
   -- the answer of the code for a member in which a datatype of the group occurs
   pub settles_iff : (r : NumberedSort) (h : Head) (args : List NumberedSort) (b : Bool) → mentions group (tree r) ≡ true → head_of r ≡ h → args ≡ parts r → (IsTrue b ↔ SettlesBy ts h (map tree args) unsettled)
       → IsTrue b ↔ Settles ts group r unsettled
@@ -53,17 +51,17 @@ module _ (ts group : List Datatype) (unsettled : List Sort) where
       by (inl no_group) = absurd (false≢true (sym no_group ∙ test))
       by (inr p) = f.1 (subst (λ z. SettlesBy ts h (map tree z) unsettled) (sym same) (subst (λ k. SettlesBy ts k (map tree (parts r)) unsettled) e p))
 
-  pub data_iff : (d : DeclNo) (n : ℕ) (t : Datatype) (cs : List Constructor) (args : List Sort) (b : Bool) → datatype_in ts d.0 ≡ Some t → cs ≡ t.constructors → (IsTrue b ↔ HasConstructorWithout cs args unsettled)
+  pub data_iff : (d : DeclNo) (n : ℕ) (t : PlainDatatype) (cs : List PlainConstructor) (args : List Sort) (b : Bool) → numbered ts d.0 ≡ Some t → cs ≡ t.constructors → (IsTrue b ↔ HasConstructorWithout cs args unsettled)
       → IsTrue b ↔ SettlesBy ts (head.Data d n) args unsettled
   data_iff d n t cs args b found all f = (
     (λ h. (t, found, subst (λ z. HasConstructorWithout z args unsettled) all (f.0 h))),
-    λ p. f.1 (subst (λ z. HasConstructorWithout z args unsettled) (ap (λ (z : Datatype). z.constructors) (some_same p.0 t (sym p.1 ∙ found)) ∙ sym all) p.2),
+    λ p. f.1 (subst (λ z. HasConstructorWithout z args unsettled) (ap (λ (z : PlainDatatype). z.constructors) (some_same p.0 t (sym p.1 ∙ found)) ∙ sym all) p.2),
   )
 
-  pub unknown_iff : (d : DeclNo) (n : ℕ) (args : List Sort) → datatype_in ts d.0 ≡ None → IsTrue false ↔ SettlesBy ts (head.Data d n) args unsettled
+  pub unknown_iff : (d : DeclNo) (n : ℕ) (args : List Sort) → numbered ts d.0 ≡ None → IsTrue false ↔ SettlesBy ts (head.Data d n) args unsettled
   unknown_iff d n args none = ((λ e. absurd (false≢true e)), λ p. by p.0 (sym none ∙ p.1))
     where
-      by : (t : Datatype) → None ≡ Some t → IsTrue false
+      by : (t : PlainDatatype) → None ≡ Some t → IsTrue false
       by t e = cc
 
   -- what settles is settled, where the members not in the list are
@@ -90,7 +88,7 @@ module _ (ts group : List Datatype) (unsettled : List Sort) where
     settled_now (inr p) = by_test (mentions group (tree r)) refl p
 
 -- where none in the list settles, none in it is settled
-module _ (ts group : List Datatype) (rs : List NumberedSort) (stuck : NoneSettles ts group rs) where
+module _ (ts group : List PlainDatatype) (rs : List NumberedSort) (stuck : NoneSettles ts group rs) where
   abbrev dummy : NumberedSort
   dummy = node 0 head.Bool no_nodes
 

@@ -3,6 +3,7 @@ use Rattle.std.proofs.Common.{◌≡◌, ℕ, zero, suc, ◌+◌, ◌<◌, ◌�
 use Rattle.std.specs.List.{Contains}
 use Rattle.sort_store.specs.Interned.{AllInterned, HasNoRepeats}
 use Rattle.sort_store.specs.Tree.{Sort, NumberedSort, tree}
+use Rattle.term_store.specs.Command.{PlainDatatype, plain_datatype}
 use Rattle.term_store.specs.declared.command.Datatype.{Datatype}
 use Rattle.dt_rules.specs.Unfolding.{IsMember, IsSettled, IsTooWide, own}
 use Rattle.dt_rules.specs.Settling.{SettlesAt, HasUnsettled}
@@ -13,7 +14,7 @@ use Rattle.dt_rules.proofs.SettledMembers.{settled_now}
 use Rattle.dt_rules.proofs.AddedParts.{split_last}
 use Rattle.dt_rules.proofs.Gaining.{sort_at}
 use Rattle.std.proofs.lemmas.List.Elements.{Contains-get_or}
-use Rattle.std.proofs.lemmas.List.{length-map}
+use Rattle.std.proofs.lemmas.List.{get_or-map, length-map}
 
 abbrev pub without : {X : Type 0} → List X → ℕ → List X
 without xs i = take i xs ++ drop (suc i) xs
@@ -55,7 +56,7 @@ without_contains (x ∷ rs) (suc i) s c = elim (cons_cases (tree x) s (map tree 
 ]
 
 -- one more member is settled
-pub settled_step : (ts group : List Datatype) (old new : List NumberedSort) (i : ℕ) → new ≡ without old i → SettlesAt ts group old i
+pub settled_step : (ts group : List PlainDatatype) (old new : List NumberedSort) (i : ℕ) → new ≡ without old i → SettlesAt ts group old i
     → ((s : Sort) → Contains (map tree old) s → IsMember ts group s) → ((s : Sort) → IsMember ts group s → IsSettled ts group s ⊎ Contains (map tree old) s)
     → (s : Sort) → IsMember ts group s → IsSettled ts group s ⊎ Contains (map tree new) s
 settled_step ts group old new i e (r, l, at, settles) members rest s m = elim (rest s m) [
@@ -100,17 +101,17 @@ no_longer (s ∷ ss) xs h f =
     let rest = no_longer ss (without xs c.0) (rest_distinct s ss h) (λ t d. elim (kept xs c.0 s t c.1 c.2 (f t (there s t ss d))) [ inl k ↦ k | inr e ↦ absurd (not_again s ss h (subst (Contains ss) (sym e) d)) ]) in
     omega (arith, rest, length_without xs c.0 c.1)
 
-pub not_wide : (ts group : List Datatype) (store : List Sort) (rs : List NumberedSort) → IsUnfolding ts group store rs → IsTooWide ts group → ⊥
+pub not_wide : (ts group : List PlainDatatype) (store : List Sort) (rs : List NumberedSort) → IsUnfolding ts group store rs → IsTooWide ts group → ⊥
 not_wide ts group store rs u (inl many) = omega (arith, no_longer many.some (map tree rs) many.distinct (λ s c. u.whole s (many.members s c)), length-map rs tree, u.listed.few, many.many)
 not_wide ts group store rs u (inr large) = omega (arith, u.listed.small large.its (u.whole large.its large.member), large.large)
 
 -- The first datatype of the group whose own sort is in the list is the first that is not settled.
 
-own_member : (ts group : List Datatype) (k : ℕ) (d : Datatype) → k < length group → IsMember ts group (own_sort (get_or group k d))
+own_member : (ts group : List PlainDatatype) (k : ℕ) (d : PlainDatatype) → k < length group → IsMember ts group (own_sort (get_or group k d))
 own_member ts group k d l = own (get_or group k d) (Contains-get_or group k d l)
 
-module _ (ts group : List Datatype) (unsettled : List Sort) (h : HasUnsettled ts group unsettled) where
-  settled_before : (n : ℕ) → NoneListed group unsettled n → (k : ℕ) (d : Datatype) → k < n → k < length group → IsSettled ts group (own_sort (get_or group k d))
+module _ (ts group : List PlainDatatype) (unsettled : List Sort) (h : HasUnsettled ts group unsettled) where
+  settled_before : (n : ℕ) → NoneListed group unsettled n → (k : ℕ) (d : PlainDatatype) → k < n → k < length group → IsSettled ts group (own_sort (get_or group k d))
   settled_before n none k d below l = elim ((h (own_sort (get_or group k d)) (own_member ts group k d l)).0) [ inl a ↦ a | inr c ↦ absurd (none k d below l c) ]
 
   pub first_unsettled : (i : ℕ) → IsFirstListed group unsettled i → IsFirstUnsettled ts group i
@@ -118,20 +119,26 @@ module _ (ts group : List Datatype) (unsettled : List Sort) (h : HasUnsettled ts
     its = f.its;
     inside = f.inside;
     at = f.at;
-    unsettled = λ s. (h (own_sort f.its) (subst (λ (z : Datatype). IsMember ts group (own_sort z)) (sym f.at) (own_member ts group i f.its f.inside))).1 s f.listed;
+    unsettled = λ s. (h (own_sort f.its) (subst (λ (z : PlainDatatype). IsMember ts group (own_sort z)) (sym f.at) (own_member ts group i f.its f.inside))).1 s f.listed;
     before = λ k d b. settled_before i f.before k d b (omega (arith, b, f.inside));
   }
 
-  pub all_settled : (n : ℕ) → length group ≤ n → NoneListed group unsettled n → (t : Datatype) → Contains group t → IsSettled ts group (own_sort t)
-  all_settled n l none t (k, below, e) = subst (λ (z : Datatype). IsSettled ts group (own_sort z)) e (settled_before n none k t (omega (arith, below, l)) below)
+  pub all_settled : (n : ℕ) → length group ≤ n → NoneListed group unsettled n → (t : PlainDatatype) → Contains group t → IsSettled ts group (own_sort t)
+  all_settled n l none t (k, below, e) = subst (λ (z : PlainDatatype). IsSettled ts group (own_sort z)) e (settled_before n none k t (omega (arith, below, l)) below)
 
-pub listed_more : (group : List Datatype) (unsettled : List Sort) (i : ℕ) (t : Datatype) → i < length group → t ≡ get_or group i t → (Contains unsettled (own_sort t) → ⊥) → NoneListed group unsettled i → NoneListed group unsettled (i + 1)
+pub listed_more : (group : List Datatype) (unsettled : List Sort) (i : ℕ) (t : Datatype) → i < length group → t ≡ get_or group i t → (Contains unsettled (own_sort (plain_datatype t)) → ⊥)
+    → NoneListed (map plain_datatype group) unsettled i → NoneListed (map plain_datatype group) unsettled (i + 1)
 listed_more group unsettled i t l at absent none = λ k d below within c. elim (split_last k i below) [
   | inl b ↦ none k d b within c
-  | inr e ↦ absent (subst (λ (z : Datatype). Contains unsettled (own_sort z)) (ap (λ z. get_or group z d) e ∙ (any group i d t l ∙ sym at)) c)
+  | inr e ↦ absent (subst (λ (z : PlainDatatype). Contains unsettled (own_sort z)) (ap (λ z. get_or (map plain_datatype group) z d) e ∙ (get_or-map plain_datatype group i t d l ∙ ap plain_datatype (sym at))) c)
 ]
-  where
-    any : {X : Type 0} (xs : List X) (k : ℕ) (d e : X) → k < length xs → get_or xs k d ≡ get_or xs k e
-    any [] k d e l = absurd (omega (arith, l))
-    any (x ∷ xs) zero d e l = refl
-    any (x ∷ xs) (suc k) d e l = any xs k d e (omega (arith, l))
+
+pub first_at : (group : List Datatype) (unsettled : List Sort) (i : ℕ) (t : Datatype) → i < length group → t ≡ get_or group i t → Contains unsettled (own_sort (plain_datatype t)) → NoneListed (map plain_datatype group) unsettled i
+    → IsFirstListed (map plain_datatype group) unsettled i
+first_at group unsettled i t l at has none = record {
+  its = plain_datatype t;
+  inside = omega (arith, l, length-map group plain_datatype);
+  at = ap plain_datatype at ∙ sym (get_or-map plain_datatype group i t (plain_datatype t) l);
+  listed = has;
+  before = none;
+}

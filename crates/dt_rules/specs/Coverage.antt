@@ -2,8 +2,7 @@
 use Rattle.std.specs.Prelude.{◌⊎◌, Bool, nat_eq, true, false, IsTrue, List}
 use Rattle.std.specs.List.{All, Any}
 use Rattle.sort_store.specs.declared.head.DeclNo.{DeclNo}
-use Rattle.term_store.specs.declared.command.Constructor.{Constructor}
-use Rattle.term_store.specs.declared.command.Datatype.{Datatype}
+use Rattle.term_store.specs.Command.{PlainConstructor, PlainDatatype}
 use Rattle.term_store.specs.declared.parts.Pattern.{Pattern}
 use Rattle.term_store.specs.declared.parts.Pattern.TheVariants as patterns
 
@@ -18,9 +17,9 @@ is_of_constructor decl (patterns.Var n) = false
 is_of_constructor decl (patterns.Con d n vs) = nat_eq d.0 decl.0
 
 -- some pattern begins with the constructor
-abbrev pub HasPattern : List Pattern → Constructor → Type 0
+abbrev pub HasPattern : List Pattern → PlainConstructor → Type 0
 HasPattern ps c = Any (λ p. IsTrue (is_of_constructor c.no p)) ps
 
 -- a pattern is a variable, or every constructor of the datatype has a pattern
-abbrev pub Covers : List Pattern → Datatype → Type 0
+abbrev pub Covers : List Pattern → PlainDatatype → Type 0
 Covers ps t = Any (λ p. IsTrue (is_variable p)) ps ⊎ All (HasPattern ps) t.constructors

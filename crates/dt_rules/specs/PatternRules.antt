@@ -7,17 +7,16 @@ use Rattle.sig_table.specs.declared.code.Code.TheVariants.{RepeatedVariable, Unk
 use Rattle.judgement.specs.Judging.{Judging, done, ◌>>=◌, check, find}
 use Rattle.term_grammar.specs.Syntax.{symbol_pattern, constructor_pattern}
 use Rattle.term_grammar.specs.Syntax as syntax
-use Rattle.term_store.specs.declared.command.Constructor.{Constructor}
-use Rattle.term_store.specs.declared.command.Datatype.{Datatype}
+use Rattle.term_store.specs.Command.{PlainConstructor, PlainDatatype}
 use Rattle.term_store.specs.declared.parts.Pattern.{Pattern}
 use Rattle.term_store.specs.declared.parts.Pattern.TheVariants as patterns
 
 -- the constructor of the datatype with this name
-abbrev pub constructor_named : Datatype → ℕ → Option Constructor
+abbrev pub constructor_named : PlainDatatype → ℕ → Option PlainConstructor
 constructor_named t name = lists.find (λ c. c.name == name) t.constructors
 
 -- a symbol alone: a constructor, which has no fields, or else a variable
-abbrev pub judge_constant : Tok → Option Constructor → Judging Pattern
+abbrev pub judge_constant : Tok → Option PlainConstructor → Judging Pattern
 judge_constant s None = done (patterns.Var s.name)
 judge_constant s (Some c) = do
   _ ← check (length c.fields ≡ 0) WrongPatternArity s.at
@@ -31,7 +30,7 @@ judge_variables before (v ∷ vs) = do
   judge_variables (before ++ v.name ∷ []) vs
 
 -- a list: a constructor with as many variables as it has fields
-abbrev pub judge_constructor : Datatype → ℕ → Tok → List Tok → Judging Pattern
+abbrev pub judge_constructor : PlainDatatype → ℕ → Tok → List Tok → Judging Pattern
 judge_constructor t at s vs = do
   c ← find (λ c. constructor_named t s.name ≡ Some c) UnknownConstructor at
   _ ← check (length vs ≡ length c.fields) WrongPatternArity at
@@ -39,6 +38,6 @@ judge_constructor t at s vs = do
   done (patterns.Con c.no c.name names)
 
 -- a pattern of a match on a term of the datatype
-abbrev pub judge_pattern : Datatype → syntax.Pattern → Judging Pattern
+abbrev pub judge_pattern : PlainDatatype → syntax.Pattern → Judging Pattern
 judge_pattern t (symbol_pattern s) = judge_constant s (constructor_named t s.name)
 judge_pattern t (constructor_pattern at s vs) = judge_constructor t at s vs

@@ -1,7 +1,8 @@
 //! Whether a group of datatypes may be declared.
 ghost use Rattle.std.specs.Prelude.{IfNone, IfOk, IfSome, length, map};
-ghost use Rattle.sort_store.specs.Interned.{Grows};
+ghost use Rattle.sort_store.specs.Interned.{Grows, HasNoRepeats};
 ghost use Rattle.sort_store.specs.Tree.{tree};
+ghost use Rattle.term_store.specs.Command.{plain_datatype};
 ghost use Rattle.dt_rules.specs.Groups.{known, IsReadyGroup};
 ghost use Rattle.dt_rules.specs.Judgement.{IsFirstListed, Judges, NoneListed};
 
@@ -19,9 +20,10 @@ fn first_listed(
     group: &[Datatype],
     unsettled: &[SortRef],
 ) -> Result<Option<usize>, SortError>
-    ensures found { IfOk result (λ o. IfSome o (IsFirstListed group.now (map tree unsettled.now))) }
-    ensures none { IfOk result (λ o. IfNone o (NoneListed group.now (map tree unsettled.now) (length group.now))) }
+    ensures found { IfOk result (λ o. IfSome o (IsFirstListed (map plain_datatype group.now) (map tree unsettled.now))) }
+    ensures none { IfOk result (λ o. IfNone o (NoneListed (map plain_datatype group.now) (map tree unsettled.now) (length group.now))) }
     ensures grows { Grows sorts.old sorts.new }
+    ensures distinct { HasNoRepeats sorts.old → HasNoRepeats sorts.new }
 {
     for i in 0..group.len() {
         let own = match own_sort(alloc, sorts, &group[i]) {
@@ -45,9 +47,11 @@ pub fn check_group(
     defs: &Defs,
     group: &[Datatype],
 ) -> Result<(), DtError>
-    requires ready { IsReadyGroup defs.now group.now }
-    ensures answer { Judges result (known defs.now group.now) group.now }
+    requires ready { IsReadyGroup (map plain_datatype defs.now.datatypes) (map plain_datatype group.now) }
+    requires distinct { HasNoRepeats sorts.old }
+    ensures answer { Judges result (known (map plain_datatype defs.now.datatypes) (map plain_datatype group.now)) (map plain_datatype group.now) }
     ensures grows { Grows sorts.old sorts.new }
+    ensures distinct { HasNoRepeats sorts.new }
 {
     let members = match unfold(alloc, sorts, defs, group) {
         Ok(members) => members,

@@ -1,6 +1,7 @@
 //! Whether the patterns of a `match` cover a datatype.
 ghost use Rattle.std.specs.Prelude.{◌≡◌, ◌↔◌, IsTrue};
 ghost use Rattle.std.specs.List.{list_all, list_any};
+ghost use Rattle.term_store.specs.Command.{plain_datatype};
 ghost use Rattle.dt_rules.specs.Coverage.{is_variable as is_variable_pattern, is_of_constructor as is_pattern_of, Covers};
 
 use sort_store::DeclNo;
@@ -51,7 +52,7 @@ fn have_patterns(patterns: &[Pattern], constructors: &[Constructor]) -> bool
 /// Whether the patterns of a `match` cover the datatype (SMT-LIB 2.6, section 3.6.1): true exactly
 /// where a pattern is a variable, or every constructor of the datatype has a pattern.
 pub fn covers(datatype: &Datatype, patterns: &[Pattern]) -> bool
-    ensures { IsTrue result ↔ Covers patterns.now datatype.now }
+    ensures { IsTrue result ↔ Covers patterns.now (plain_datatype datatype.now) }
 {
     has_variable(patterns) || have_patterns(patterns, datatype.constructors.as_slice())
 }

@@ -16,8 +16,8 @@ pub enum TyError {
     NoMemory,
 }
 
-// The fault with this code at a byte.
-pub(crate) fn fault(code: Code, at: u32) -> TyError
+/// The fault with this code at a byte.
+pub fn fault(code: Code, at: u32) -> TyError
     ensures { result ≡ TyError.Fault (record { code = code; at = at }) }
 {
     TyError::Fault(Place { code, at })

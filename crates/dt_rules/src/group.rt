@@ -1,16 +1,13 @@
 //! The datatypes of a group, and the sorts that mention them.
-ghost use Rattle.std.specs.Prelude.{List, ◌≡◌, ◌≤◌, ◌↔◌, ◌<◌, ◌+◌, ℕ, nat_eq, IfErr, IfOk, OnOk, IsTrue, IsErrOf, Err, Some, length, map, slice_get};
+ghost use Rattle.std.specs.Prelude.{List, ◌≡◌, ◌≤◌, ◌↔◌, ◌<◌, ◌+◌, ℕ, nat_eq, IfErr, IfOk, OnOk, IsTrue, IsErrOf, Err, Some, length, map, option_map, slice_get};
 ghost use Rattle.std.specs.List.{Contains, list_any};
 ghost use Rattle.std.specs.Option.{option_copied};
-ghost use Rattle.sort_store.specs.Interned.{IsInterned, AllInterned, Grows};
+ghost use Rattle.sort_store.specs.Interned.{IsInterned, AllInterned, HasNoRepeats, Grows};
 ghost use Rattle.sort_store.specs.Tree.{Sort, tree, parts, node_count};
-ghost use Rattle.term_store.specs.Definitions.{datatype_in};
 ghost use Rattle.dt_rules.specs.declared.error.DtError.{DtError};
 ghost use Rattle.sort_store.specs.Instance.{inst, ParamsBelow};
-ghost use Rattle.term_store.specs.declared.command.Field.{Field};
-ghost use Rattle.dt_rules.specs.Groups.{is_of_group as head_is_of_group, known, mentions as sort_mentions, own_sort as own_sort_of, param_sorts, IsConstructorFieldSort, IsFieldSort, IsOwnSort, IsReadyGroup};
-ghost use Rattle.term_store.specs.declared.command.Constructor.{Constructor};
-ghost use Rattle.term_store.specs.declared.command.Datatype.{Datatype};
+ghost use Rattle.dt_rules.specs.Groups.{is_of_group as head_is_of_group, known, mentions as sort_mentions, numbered, own_sort as own_sort_of, param_sorts, IsConstructorFieldSort, IsFieldSort, IsOwnSort, IsReadyGroup};
+ghost use Rattle.term_store.specs.Command.{PlainConstructor, PlainDatatype, PlainField, plain_constructor, plain_datatype, plain_field};
 ghost use Rattle.sort_store.specs.declared.error.SortError.{SortError};
 ghost use Rattle.dt_rules.specs.Unfolding.{IsAddedBy, IsMember};
 ghost use Rattle.dt_rules.specs.Worklist.{AreMembers, Gains, HasAdded, Unfolds};
@@ -29,7 +26,7 @@ fn has_number(group: &[Datatype], no: DeclNo) -> bool
 
 // Whether the sort symbol is a datatype of the group.
 fn is_of_group(group: &[Datatype], head: Head) -> bool
-    ensures { result ≡ head_is_of_group group.now head }
+    ensures { result ≡ head_is_of_group (map plain_datatype group.now) head }
 {
     match head {
         Head::Data { no, .. } => has_number(group, no),
@@ -40,7 +37,7 @@ fn is_of_group(group: &[Datatype], head: Head) -> bool
 /// Whether a datatype of the group occurs in the sort.
 #[tactic(auto, using(crate::proofs::Mentions::mentions_words))]
 pub(crate) fn mentions(group: &[Datatype], sort: &SortRef) -> bool
-    ensures { result ≡ sort_mentions group.now (tree sort.now) }
+    ensures { result ≡ sort_mentions (map plain_datatype group.now) (tree sort.now) }
 {
     if is_of_group(group, sort.head()) {
         return true;
@@ -62,7 +59,7 @@ pub(crate) fn datatype_with<'a>(
     group: &'a [Datatype],
     no: DeclNo,
 ) -> Option<&'a Datatype>
-    ensures { option_copied result ≡ datatype_in (known defs.now group.now) no.0 }
+    ensures { option_map plain_datatype (option_copied result) ≡ numbered (known (map plain_datatype defs.now.datatypes) (map plain_datatype group.now)) no.0 }
 {
     for datatype in group {
         if no.0 == datatype.no.0 {
@@ -115,9 +112,9 @@ fn arg_at(sort: &SortRef, i: usize) -> Result<SortRef, AllocError>
     }
 }
 
-// The arguments of a sort.
+/// The arguments of a sort. The only error is that memory runs out.
 #[tactic(auto, using(crate::proofs::Gaining::args_step))]
-pub(crate) fn args_of(alloc: Global, sort: &SortRef) -> Result<Vec<SortRef>, AllocError>
+pub fn args_of(alloc: Global, sort: &SortRef) -> Result<Vec<SortRef>, AllocError>
     ensures { IfOk result (λ v. v.items ≡ parts sort.now) }
 {
     let mut args = Vec::new(alloc);
@@ -134,6 +131,7 @@ fn params_of(alloc: Global, sorts: &mut SortStore, count: u32) -> Result<Vec<Sor
     ensures trees { IfOk result (λ v. map tree v.items ≡ param_sorts count) }
     ensures interned { IfOk result (λ v. AllInterned sorts.new v.items) }
     ensures grows { Grows sorts.old sorts.new }
+    ensures distinct { HasNoRepeats sorts.old → HasNoRepeats sorts.new }
 {
     let mut params = Vec::new(alloc);
     for i in 0..count {
@@ -151,11 +149,12 @@ pub(crate) fn own_sort(
     sorts: &mut SortStore,
     datatype: &Datatype,
 ) -> Result<SortRef, SortError>
-    ensures tree { IfOk result (λ r. tree r ≡ own_sort_of datatype.now) }
+    ensures tree { IfOk result (λ r. tree r ≡ own_sort_of (plain_datatype datatype.now)) }
     ensures interned { IfOk result (λ r. IsInterned sorts.new r) }
     ensures small { IfOk result (λ r. node_count (tree r) ≤ 1000) }
-    ensures too_large { IsErrOf result SortError.TooLarge → 1000 < node_count (own_sort_of datatype.now) }
+    ensures too_large { IsErrOf result SortError.TooLarge → 1000 < node_count (own_sort_of (plain_datatype datatype.now)) }
     ensures grows { Grows sorts.old sorts.new }
+    ensures distinct { HasNoRepeats sorts.old → HasNoRepeats sorts.new }
 {
     let Ok(count) = u32::try_from(datatype.params.as_slice().len()) else {
         return Err(SortError::TooLarge);
@@ -182,10 +181,11 @@ fn add_instance(
 ) -> Result<(), DtError>
     requires args { AllInterned sorts.old args.now }
     requires params { ParamsBelow (length args.now) (tree schema.now) }
-    ensures gains { (ts group : List Datatype) → AreMembers ts group sorts.old list.old.items
+    ensures gains { (ts group : List PlainDatatype) → AreMembers ts group sorts.old list.old.items
         → IsMember ts group (inst (map tree args.now) (tree schema.now))
         → Gains result ts group (λ s. s ≡ inst (map tree args.now) (tree schema.now)) sorts.new list.old.items list.new.items }
     ensures grows { Grows sorts.old sorts.new }
+    ensures distinct { HasNoRepeats sorts.new }
 {
     match sorts.inst(schema, args) {
         Ok(sort) => add(list, sort),
@@ -202,11 +202,12 @@ fn add_field_sorts(
     list: &mut Vec<SortRef>,
 ) -> Result<(), DtError>
     requires args { AllInterned sorts.old args.now }
-    requires params { (f : Field) → Contains fields.now f → ParamsBelow (length args.now) (tree f.sort) }
-    ensures gains { (ts group : List Datatype) → AreMembers ts group sorts.old list.old.items
-        → ((s : Sort) → IsFieldSort fields.now (map tree args.now) s → IsMember ts group s)
-        → Gains result ts group (IsFieldSort fields.now (map tree args.now)) sorts.new list.old.items list.new.items }
+    requires params { (f : PlainField) → Contains (map plain_field fields.now) f → ParamsBelow (length args.now) f.sort }
+    ensures gains { (ts group : List PlainDatatype) → AreMembers ts group sorts.old list.old.items
+        → ((s : Sort) → IsFieldSort (map plain_field fields.now) (map tree args.now) s → IsMember ts group s)
+        → Gains result ts group (IsFieldSort (map plain_field fields.now) (map tree args.now)) sorts.new list.old.items list.new.items }
     ensures grows { Grows sorts.old sorts.new }
+    ensures distinct { HasNoRepeats sorts.old → HasNoRepeats sorts.new }
 {
     for field in fields {
         match add_instance(sorts, &field.sort, args, list) {
@@ -225,11 +226,12 @@ fn add_constructor_sorts(
     list: &mut Vec<SortRef>,
 ) -> Result<(), DtError>
     requires args { AllInterned sorts.old args.now }
-    requires params { (c : Constructor) (f : Field) → Contains constructors.now c → Contains c.fields f → ParamsBelow (length args.now) (tree f.sort) }
-    ensures gains { (ts group : List Datatype) → AreMembers ts group sorts.old list.old.items
-        → ((s : Sort) → IsConstructorFieldSort constructors.now (map tree args.now) s → IsMember ts group s)
-        → Gains result ts group (IsConstructorFieldSort constructors.now (map tree args.now)) sorts.new list.old.items list.new.items }
+    requires params { (c : PlainConstructor) (f : PlainField) → Contains (map plain_constructor constructors.now) c → Contains c.fields f → ParamsBelow (length args.now) f.sort }
+    ensures gains { (ts group : List PlainDatatype) → AreMembers ts group sorts.old list.old.items
+        → ((s : Sort) → IsConstructorFieldSort (map plain_constructor constructors.now) (map tree args.now) s → IsMember ts group s)
+        → Gains result ts group (IsConstructorFieldSort (map plain_constructor constructors.now) (map tree args.now)) sorts.new list.old.items list.new.items }
     ensures grows { Grows sorts.old sorts.new }
+    ensures distinct { HasNoRepeats sorts.old → HasNoRepeats sorts.new }
 {
     for constructor in constructors {
         match add_field_sorts(sorts, constructor.fields.as_slice(), args, list) {
@@ -255,7 +257,7 @@ pub(crate) fn copy_of(sort: &SortRef) -> Result<SortRef, DtError>
 
 // Puts sorts into the list.
 fn add_each(some: &[SortRef], list: &mut Vec<SortRef>) -> Result<(), DtError>
-    ensures gains { (ts group : List Datatype) (store : List Sort) → AreMembers ts group store list.old.items → AllInterned store some.now
+    ensures gains { (ts group : List PlainDatatype) (store : List Sort) → AreMembers ts group store list.old.items → AllInterned store some.now
         → ((s : Sort) → Contains (map tree some.now) s → IsMember ts group s)
         → Gains result ts group (Contains (map tree some.now)) store list.old.items list.new.items }
 {
@@ -279,10 +281,11 @@ fn add_own_sort(
     datatype: &Datatype,
     list: &mut Vec<SortRef>,
 ) -> Result<(), DtError>
-    ensures gains { (ts group : List Datatype) → AreMembers ts group sorts.old list.old.items
-        → IsMember ts group (own_sort_of datatype.now)
-        → Gains result ts group (λ s. s ≡ own_sort_of datatype.now) sorts.new list.old.items list.new.items }
+    ensures gains { (ts group : List PlainDatatype) → AreMembers ts group sorts.old list.old.items
+        → IsMember ts group (own_sort_of (plain_datatype datatype.now))
+        → Gains result ts group (λ s. s ≡ own_sort_of (plain_datatype datatype.now)) sorts.new list.old.items list.new.items }
     ensures grows { Grows sorts.old sorts.new }
+    ensures distinct { HasNoRepeats sorts.old → HasNoRepeats sorts.new }
 {
     match own_sort(alloc, sorts, datatype) {
         Ok(sort) => add(list, sort),
@@ -298,9 +301,10 @@ fn add_own_sorts(
     group: &[Datatype],
     list: &mut Vec<SortRef>,
 ) -> Result<(), DtError>
-    ensures gains { (ts : List Datatype) → AreMembers ts group.now sorts.old list.old.items
-        → Gains result ts group.now (IsOwnSort group.now) sorts.new list.old.items list.new.items }
+    ensures gains { (ts : List PlainDatatype) → AreMembers ts (map plain_datatype group.now) sorts.old list.old.items
+        → Gains result ts (map plain_datatype group.now) (IsOwnSort (map plain_datatype group.now)) sorts.new list.old.items list.new.items }
     ensures grows { Grows sorts.old sorts.new }
+    ensures distinct { HasNoRepeats sorts.old → HasNoRepeats sorts.new }
 {
     for datatype in group {
         match add_own_sort(alloc, sorts, datatype, list) {
@@ -320,12 +324,13 @@ fn add_parts(
     sort: &SortRef,
     list: &mut Vec<SortRef>,
 ) -> Result<(), DtError>
-    requires ready { IsReadyGroup defs.now group.now }
+    requires ready { IsReadyGroup (map plain_datatype defs.now.datatypes) (map plain_datatype group.now) }
     requires interned { IsInterned sorts.old sort.now }
-    requires member { IsMember (known defs.now group.now) group.now (tree sort.now) }
-    ensures gains { let ts = known defs.now group.now in AreMembers ts group.now sorts.old list.old.items
-        → Gains result ts group.now (IsAddedBy ts group.now sort.now) sorts.new list.old.items list.new.items }
+    requires member { IsMember (known (map plain_datatype defs.now.datatypes) (map plain_datatype group.now)) (map plain_datatype group.now) (tree sort.now) }
+    ensures gains { let group = map plain_datatype group.now in let ts = known (map plain_datatype defs.now.datatypes) group in AreMembers ts group sorts.old list.old.items
+        → Gains result ts group (IsAddedBy ts group sort.now) sorts.new list.old.items list.new.items }
     ensures grows { Grows sorts.old sorts.new }
+    ensures distinct { HasNoRepeats sorts.old → HasNoRepeats sorts.new }
 {
     if !mentions(group, sort) {
         return Ok(());
@@ -352,9 +357,10 @@ pub(crate) fn unfold(
     defs: &Defs,
     group: &[Datatype],
 ) -> Result<Vec<SortRef>, DtError>
-    requires ready { IsReadyGroup defs.now group.now }
-    ensures unfolds { Unfolds result (known defs.now group.now) group.now sorts.new }
+    requires ready { IsReadyGroup (map plain_datatype defs.now.datatypes) (map plain_datatype group.now) }
+    ensures unfolds { Unfolds result (known (map plain_datatype defs.now.datatypes) (map plain_datatype group.now)) (map plain_datatype group.now) sorts.new }
     ensures grows { Grows sorts.old sorts.new }
+    ensures distinct { HasNoRepeats sorts.old → HasNoRepeats sorts.new }
 {
     let mut list = Vec::new(alloc);
     match add_own_sorts(alloc, sorts, group, &mut list) {

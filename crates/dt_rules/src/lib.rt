@@ -10,8 +10,9 @@ mod settled;
 
 pub use check::check_group;
 pub use coverage::covers;
-pub use error::{DtError, TyError};
-pub use pattern::check_pattern;
+pub use error::{DtError, TyError, fault};
+pub use group::args_of;
+pub use pattern::{check_pattern, constructor_named};
 
 #[cfg(test)]
 mod tests;

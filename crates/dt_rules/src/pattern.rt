@@ -1,8 +1,9 @@
 //! The patterns of a `match`.
-ghost use Rattle.std.specs.Prelude.{◌≡◌, ◌==◌, []};
-ghost use Rattle.std.specs.List.{list_any};
+ghost use Rattle.std.specs.Prelude.{◌≡◌, ◌==◌, [], option_map};
+ghost use Rattle.std.specs.List.{find, list_any};
 ghost use Rattle.std.specs.Option.{option_copied};
 ghost use Rattle.judgement.specs.Judging.{Lawful};
+ghost use Rattle.term_store.specs.Command.{plain_constructor, plain_datatype};
 ghost use Rattle.dt_rules.specs.Answers.{Answers};
 ghost use Rattle.dt_rules.specs.PatternRules.{constructor_named as constructor_with, judge_constant, judge_constructor, judge_pattern, judge_variables};
 
@@ -13,15 +14,20 @@ use std::alloc::Global;
 use term_grammar::{RawPattern, RawPatternKind, RawSymbols};
 use term_store::{Constructor, Datatype, ListOf, Pattern};
 
-// The constructor of the datatype with this name.
-fn constructor_named(datatype: &Datatype, name: NameId) -> Option<&Constructor>
-    ensures { option_copied result ≡ constructor_with datatype.now name }
+// The first of the constructors with this name.
+fn find_named(constructors: &[Constructor], name: NameId) -> Option<&Constructor>
+    ensures { option_copied result ≡ find (λ c. c.name == name) constructors.now }
 {
-    datatype
-        .constructors
-        .as_slice()
+    constructors
         .iter()
         .find(|constructor| constructor.name == name)
+}
+
+/// The constructor of the datatype with this name.
+pub fn constructor_named(datatype: &Datatype, name: NameId) -> Option<&Constructor>
+    ensures { option_map plain_constructor (option_copied result) ≡ constructor_with (plain_datatype datatype.now) name }
+{
+    find_named(datatype.constructors.as_slice(), name)
 }
 
 fn is_repeated(names: &[NameId], name: NameId) -> bool
@@ -51,12 +57,13 @@ fn variables_of(alloc: Global, variables: &RawSymbols) -> Result<ListOf<NameId>,
 }
 
 // The pattern of a symbol alone, which may name this constructor.
+#[tactic(auto, using(crate::proofs::PatternSteps::plain_words))]
 fn constant_pattern(
     alloc: Global,
     symbol: &Tok,
     constructor: Option<&Constructor>,
 ) -> Result<Pattern, TyError>
-    ensures { Answers result (judge_constant symbol.now (option_copied constructor.entry)) }
+    ensures { Answers result (judge_constant symbol.now (option_map plain_constructor (option_copied constructor.entry))) }
 {
     let Some(constructor) = constructor else {
         return Ok(Pattern::Var(symbol.name));
@@ -72,6 +79,7 @@ fn constant_pattern(
 }
 
 // The pattern of a constructor with variables, whose list begins at a byte.
+#[tactic(auto, using(crate::proofs::PatternSteps::plain_words))]
 fn constructor_pattern(
     alloc: Global,
     datatype: &Datatype,
@@ -79,7 +87,7 @@ fn constructor_pattern(
     symbol: &Tok,
     variables: &RawSymbols,
 ) -> Result<Pattern, TyError>
-    ensures { Answers result (judge_constructor datatype.now at symbol.now variables.now) }
+    ensures { Answers result (judge_constructor (plain_datatype datatype.now) at symbol.now variables.now) }
 {
     let Some(constructor) = constructor_named(datatype, symbol.name) else {
         return Err(fault(Code::UnknownConstructor, at));
@@ -106,10 +114,10 @@ pub fn check_pattern(
     datatype: &Datatype,
     raw: RawPattern,
 ) -> Result<Pattern, TyError>
-    ensures answer { Answers result (judge_pattern datatype.now raw.entry) }
+    ensures answer { Answers result (judge_pattern (plain_datatype datatype.now) raw.entry) }
 
     // The rules allow no other answer.
-    ensures decided { Lawful (judge_pattern datatype.now raw.entry) }
+    ensures decided { Lawful (judge_pattern (plain_datatype datatype.now) raw.entry) }
 {
     let at = raw.at();
     match raw.kind() {

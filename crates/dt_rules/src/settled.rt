@@ -3,10 +3,9 @@ ghost use Rattle.std.specs.Prelude.{List, ◌≡◌, ◌↔◌, IfNone, IfOk, If
 ghost use Rattle.std.specs.List.{Contains};
 ghost use Rattle.std.specs.Option.{option_copied};
 ghost use Rattle.sort_store.specs.Instance.{ParamsBelow};
-ghost use Rattle.sort_store.specs.Interned.{IsInterned, AllInterned, Grows};
+ghost use Rattle.sort_store.specs.Interned.{IsInterned, AllInterned, HasNoRepeats, Grows};
 ghost use Rattle.sort_store.specs.Tree.{Sort, tree};
-ghost use Rattle.term_store.specs.declared.command.Constructor.{Constructor};
-ghost use Rattle.term_store.specs.declared.command.Field.{Field};
+ghost use Rattle.term_store.specs.Command.{PlainConstructor, PlainField, plain_constructor, plain_datatype, plain_field};
 ghost use Rattle.dt_rules.specs.Groups.{known, IsReadyGroup};
 ghost use Rattle.dt_rules.specs.Unfolding.{IsMember};
 ghost use Rattle.dt_rules.specs.Settling.{HasConstructorWithout, HasElementWithout, HasNoFieldSort, HasUnsettled, NoneSettles, Settles, SettlesAt};
@@ -25,9 +24,10 @@ fn are_apart(
     unsettled: &[SortRef],
 ) -> Result<bool, SortError>
     requires args { AllInterned sorts.old args.now }
-    requires params { (f : Field) → Contains fields.now f → ParamsBelow (length args.now) (tree f.sort) }
-    ensures none { IfOk result (λ b. IsTrue b ↔ HasNoFieldSort fields.now (map tree args.now) (map tree unsettled.now)) }
+    requires params { (f : PlainField) → Contains (map plain_field fields.now) f → ParamsBelow (length args.now) f.sort }
+    ensures none { IfOk result (λ b. IsTrue b ↔ HasNoFieldSort (map plain_field fields.now) (map tree args.now) (map tree unsettled.now)) }
     ensures grows { Grows sorts.old sorts.new }
+    ensures distinct { HasNoRepeats sorts.old → HasNoRepeats sorts.new }
 {
     for field in fields {
         let sort = match sorts.inst(&field.sort, args) {
@@ -49,9 +49,10 @@ fn has_settled(
     unsettled: &[SortRef],
 ) -> Result<bool, SortError>
     requires args { AllInterned sorts.old args.now }
-    requires params { (c : Constructor) (f : Field) → Contains constructors.now c → Contains c.fields f → ParamsBelow (length args.now) (tree f.sort) }
-    ensures some { IfOk result (λ b. IsTrue b ↔ HasConstructorWithout constructors.now (map tree args.now) (map tree unsettled.now)) }
+    requires params { (c : PlainConstructor) (f : PlainField) → Contains (map plain_constructor constructors.now) c → Contains c.fields f → ParamsBelow (length args.now) f.sort }
+    ensures some { IfOk result (λ b. IsTrue b ↔ HasConstructorWithout (map plain_constructor constructors.now) (map tree args.now) (map tree unsettled.now)) }
     ensures grows { Grows sorts.old sorts.new }
+    ensures distinct { HasNoRepeats sorts.old → HasNoRepeats sorts.new }
 {
     for constructor in constructors {
         match are_apart(sorts, constructor.fields.as_slice(), args, unsettled) {
@@ -89,11 +90,12 @@ fn settles(
     sort: &SortRef,
     unsettled: &[SortRef],
 ) -> Result<bool, SortError>
-    requires ready { IsReadyGroup defs.now group.now }
+    requires ready { IsReadyGroup (map plain_datatype defs.now.datatypes) (map plain_datatype group.now) }
     requires interned { IsInterned sorts.old sort.now }
-    requires member { IsMember (known defs.now group.now) group.now (tree sort.now) }
-    ensures settles { IfOk result (λ b. IsTrue b ↔ Settles (known defs.now group.now) group.now sort.now (map tree unsettled.now)) }
+    requires member { IsMember (known (map plain_datatype defs.now.datatypes) (map plain_datatype group.now)) (map plain_datatype group.now) (tree sort.now) }
+    ensures settles { IfOk result (λ b. IsTrue b ↔ Settles (known (map plain_datatype defs.now.datatypes) (map plain_datatype group.now)) (map plain_datatype group.now) sort.now (map tree unsettled.now)) }
     ensures grows { Grows sorts.old sorts.new }
+    ensures distinct { HasNoRepeats sorts.old → HasNoRepeats sorts.new }
 {
     if !mentions(group, sort) {
         return Ok(true);
@@ -122,12 +124,13 @@ fn settling(
     group: &[Datatype],
     unsettled: &[SortRef],
 ) -> Result<Option<usize>, SortError>
-    requires ready { IsReadyGroup defs.now group.now }
+    requires ready { IsReadyGroup (map plain_datatype defs.now.datatypes) (map plain_datatype group.now) }
     requires interned { AllInterned sorts.old unsettled.now }
-    requires members { (s : Sort) → Contains (map tree unsettled.now) s → IsMember (known defs.now group.now) group.now s }
-    ensures found { IfOk result (λ o. IfSome o (SettlesAt (known defs.now group.now) group.now unsettled.now)) }
-    ensures none { IfOk result (λ o. IfNone o (NoneSettles (known defs.now group.now) group.now unsettled.now)) }
+    requires members { (s : Sort) → Contains (map tree unsettled.now) s → IsMember (known (map plain_datatype defs.now.datatypes) (map plain_datatype group.now)) (map plain_datatype group.now) s }
+    ensures found { IfOk result (λ o. IfSome o (SettlesAt (known (map plain_datatype defs.now.datatypes) (map plain_datatype group.now)) (map plain_datatype group.now) unsettled.now)) }
+    ensures none { IfOk result (λ o. IfNone o (NoneSettles (known (map plain_datatype defs.now.datatypes) (map plain_datatype group.now)) (map plain_datatype group.now) unsettled.now)) }
     ensures grows { Grows sorts.old sorts.new }
+    ensures distinct { HasNoRepeats sorts.old → HasNoRepeats sorts.new }
 {
     for i in 0..unsettled.len() {
         match settles(alloc, sorts, defs, group, &unsettled[i], unsettled) {
@@ -147,10 +150,11 @@ pub(crate) fn settle(
     group: &[Datatype],
     members: Vec<SortRef>,
 ) -> Result<Vec<SortRef>, SortError>
-    requires ready { IsReadyGroup defs.now group.now }
-    requires unfolding { IsUnfolding (known defs.now group.now) group.now sorts.old members.items }
-    ensures unsettled { IfOk result (λ v. HasUnsettled (known defs.now group.now) group.now (map tree v.items)) }
+    requires ready { IsReadyGroup (map plain_datatype defs.now.datatypes) (map plain_datatype group.now) }
+    requires unfolding { IsUnfolding (known (map plain_datatype defs.now.datatypes) (map plain_datatype group.now)) (map plain_datatype group.now) sorts.old members.items }
+    ensures unsettled { IfOk result (λ v. HasUnsettled (known (map plain_datatype defs.now.datatypes) (map plain_datatype group.now)) (map plain_datatype group.now) (map tree v.items)) }
     ensures grows { Grows sorts.old sorts.new }
+    ensures distinct { HasNoRepeats sorts.old → HasNoRepeats sorts.new }
 {
     let mut unsettled = members;
     let mut next = match settling(alloc, sorts, defs, group, &unsettled) {

@@ -25,13 +25,14 @@ use Rattle.term_store.specs.Script.{Kept, commands_of, empty_script}
 use Rattle.scope_stack.specs.Environment.{empty}
 use Rattle.scope_stack.specs.Environment.{Environment as Scopes}
 use Rattle.typer.proofs.ReadyCalls.{ready_with_names}
-use Rattle.typer.specs.Declarations.{declarations_of, no_declarations}
+use Rattle.typer.specs.Declarations.{declarations_of}
 use Rattle.script_core.specs.declared.checker.Checker.{Checker}
 use Rattle.script_core.specs.declared.refusal.Progress.{Progress}
 use Rattle.script_core.specs.declared.refusal.Progress.TheVariants as progress
 use Rattle.script_core.specs.declared.refusal.Refusal.{Refusal}
 use Rattle.script_core.specs.Acceptance.{place_of}
 use Rattle.script_core.specs.Checking.{Awaits, Exits, Follows, HasTaken, HasTokensOf, IsReadyScope, TakesTree, TokenBreaks, accepted_by, environment_of, progress_of, texts_of}
+use Rattle.typer.specs.FunctionSymbols.{datatypes_of}
 use Rattle.script_core.specs.Environment.{Environment, core_alone, start}
 use Rattle.script_core.specs.Keeping.{KeepsDefined}
 use Rattle.script_core.specs.Interned.{AreInterned, sexp_of}
@@ -279,6 +280,10 @@ follows_grown known tokens c new lexer e f =
       stands = record { ready = ready_with_names c.scope.world new e f.stands.ready; undeclared = f.stands.undeclared };
     }
 
+abbrev env_of : List (List ℕ) → Bool → Theories → Scopes → Kept → ℕ → Environment
+env_of names logic theories scopes script next =
+    record { names = names; logic = logic; theories = theories; declarations = declarations_of scopes; datatypes = datatypes_of script; next = next }
+
 -- nothing was taken yet
 pub starts : (c : Checker) → c.builder ≡ ([], None) → c.scope.logic ≡ false → c.scope.world.theories ≡ core_alone → c.scope.world.scopes ≡ empty → c.scope.next ≡ 0 → c.scope.world.script ≡ empty_script → HasRead [] [] c.lexer
     → c.scope.world.names ≡ fixed_texts → IsNameTable c.scope.world.names → IsReadyScope c.scope → length c.scope.world.names ≤ 57 → HasTaken [] c
@@ -291,11 +296,12 @@ starts c builder logic theories scopes next script read names table stands few =
     reads = subst (λ (s : State). Reads [] [] (texts_of c.scope.world.names s.0)) (sym builder) reads_nothing;
     no_error = ap (λ (s : State). s.1) builder;
     runs = ap (λ (k : Kept). all_of (commands_of k) (environment_of c.scope.world.names c.scope)) script ∙ ap (λ (e : Environment). all_of [] e)
-        (ap (λ (ns : List (List ℕ)). record { names = ns; logic = c.scope.logic; theories = c.scope.world.theories; declarations = declarations_of c.scope.world.scopes; next = c.scope.next }) names
-        ∙ (ap (λ (b : Bool). record { names = fixed_texts; logic = b; theories = c.scope.world.theories; declarations = declarations_of c.scope.world.scopes; next = c.scope.next }) logic
-        ∙ (ap (λ (t : Theories). record { names = fixed_texts; logic = false; theories = t; declarations = declarations_of c.scope.world.scopes; next = c.scope.next }) theories
-        ∙ (ap (λ (d : Scopes). record { names = fixed_texts; logic = false; theories = core_alone; declarations = declarations_of d; next = c.scope.next }) scopes
-        ∙ ap (λ (n : ℕ). record { names = fixed_texts; logic = false; theories = core_alone; declarations = no_declarations; next = n }) next))));
+        (ap (λ (ns : List (List ℕ)). env_of ns c.scope.logic c.scope.world.theories c.scope.world.scopes c.scope.world.script c.scope.next) names
+        ∙ (ap (λ (b : Bool). env_of fixed_texts b c.scope.world.theories c.scope.world.scopes c.scope.world.script c.scope.next) logic
+        ∙ (ap (λ (t : Theories). env_of fixed_texts false t c.scope.world.scopes c.scope.world.script c.scope.next) theories
+        ∙ (ap (λ (d : Scopes). env_of fixed_texts false core_alone d c.scope.world.script c.scope.next) scopes
+        ∙ (ap (λ (k : Kept). env_of fixed_texts false core_alone empty k c.scope.next) script
+        ∙ ap (λ (n : ℕ). env_of fixed_texts false core_alone empty empty_script n) next)))));
     interned = subst (λ (s : State). AreInterned c.scope.world.names s.0) (sym builder) tt;
     table = subst (λ (s : State). c.scope.world.names ≡ table_after c.scope.world.names (texts_of c.scope.world.names s.0)) (sym builder) refl;
     keeps = subst KeepsDefined (sym script) (record { defs = refl; no_datatypes = refl });

@@ -8,7 +8,7 @@ use Rattle.sexp_core.specs.Sexp.{Sexp}
 use Rattle.judgement.specs.Judging.{Outcome, Lawful, well_sorted, ill_sorted}
 use Rattle.judgement.proofs.JudgementLaws.{fault_once, lawful-check, lawful-declare, lawful-done, lawful-find, lawful-refuse, lawful-then, never_both, option_decided, test_decided, value_once, value_or_fault}
 use Rattle.term_grammar.specs.Syntax as syntax
-use Rattle.term_grammar.specs.Syntax.{SortedSymbol, Term, constant, qualified_term, application, let_in, for_all, there_exists, match_with, annotated, Terms, no_terms, with_term, Bindings, no_bindings, with_binding, Notes, no_notes, with_note, Note, named_note, pattern_note, attribute_note}
+use Rattle.term_grammar.specs.Syntax.{SortedSymbol, Term, Terms, no_terms, with_term}
 use Rattle.cmd_grammar.specs.Commands.{Command, FunDec, Literal, assert, check_sat_assuming, declare_const, declare_fun, declare_sort, define_fun, define_fun_rec, define_funs_rec, define_sort, echo, exit, get_info, get_option, get_value, pop, push, reset, reset_assertions, set_info, set_logic, set_option}
 use Rattle.cmd_grammar.specs.Grammar.{IsGrammarFault, ReadsCommand}
 use Rattle.cmd_grammar.proofs.GrammarAgrees.{one_command, one_of_both, not_both}
@@ -27,7 +27,7 @@ use Rattle.script_core.specs.RuleAnswers.{is_quantified}
 use Rattle.term_store.specs.Term.{plain_sort}
 use Rattle.script_core.specs.Environment.{Environment, signature_from, signature_in}
 use Rattle.script_core.specs.Numbering.{numbered_sexp}
-use Rattle.script_core.specs.Rules.{Header, declare_each, is_built, judge_all_built, judge_bindings_built, judge_body, judge_bool, judge_built, judge_command, judge_form, judge_fragment, judge_header, judge_headers, judge_literals, judge_member, judge_members, judge_mode, judge_note_built, judge_own, judge_notes_built, judge_params, judge_parts, judge_variable, judge_variables, unchanging, with_header, with_headers}
+use Rattle.script_core.specs.Rules.{Header, declare_each, is_built, judge_body, judge_bool, judge_command, judge_form, judge_fragment, judge_header, judge_headers, judge_literals, judge_member, judge_members, judge_mode, judge_own, judge_params, judge_parts, judge_variable, judge_variables, unchanging, with_header, with_headers}
 use Rattle.script_core.specs.Steps.{ListFault, ListSteps, judge_grammar, judge_list, judge_tree, with_names}
 
 lawful-grammar : (t : Sexp Tok) → Lawful (judge_grammar t)
@@ -48,40 +48,7 @@ is_false : (b : Bool) → (b ≡ false) ⊎ ((b ≡ false) → ⊥)
 is_false true = inr (λ e. false≢true (sym e))
 is_false false = inl refl
 
-mutual
-  lawful-built : (t : Term) → Lawful (judge_built t)
-  lawful-built (constant c) = lawful-done _
-  lawful-built (qualified_term q) = lawful-done _
-  lawful-built (application at q ts) = lawful-all_built ts
-  lawful-built (let_in at bs u) = lawful-then _ _ (lawful-bindings_built bs) (λ v. lawful-built u)
-  lawful-built (for_all at vs u) = lawful-built u
-  lawful-built (there_exists at vs u) = lawful-built u
-  lawful-built (match_with at u cs) = lawful-refuse _ _
-  lawful-built (annotated at u ns) = lawful-then _ _ (lawful-built u) (λ w. lawful-notes_built ns)
-
-  lawful-all_built : (ts : Terms) → Lawful (judge_all_built ts)
-  lawful-all_built no_terms = lawful-done _
-  lawful-all_built (with_term t ts) = lawful-then _ _ (lawful-built t) (λ u. lawful-all_built ts)
-
-  lawful-bindings_built : (bs : Bindings) → Lawful (judge_bindings_built bs)
-  lawful-bindings_built no_bindings = lawful-done _
-  lawful-bindings_built (with_binding at x t bs) = lawful-then _ _ (lawful-built t) (λ u. lawful-bindings_built bs)
-
-  lawful-notes_built : (ns : Notes) → Lawful (judge_notes_built ns)
-  lawful-notes_built no_notes = lawful-done _
-  lawful-notes_built (with_note n ns) = lawful-then _ _ (lawful-note_built n) (λ u. lawful-notes_built ns)
-
-  lawful-note_built : (n : Note) → Lawful (judge_note_built n)
-  lawful-note_built (named_note t) = lawful-done _
-  lawful-note_built (pattern_note ts) = lawful-all_built ts
-  lawful-note_built (attribute_note a) = lawful-done _
-
 lawful-form : (at : ℕ) (c : Command) → Lawful (judge_form at c)
-lawful-form at (assert t) = lawful-built t
-lawful-form at (define_fun f) = lawful-built f.body
-lawful-form at (define_fun_rec f) = lawful-built f.body
-lawful-form at (define_funs_rec fs ts) = lawful-all_built ts
-lawful-form at (get_value ts) = lawful-all_built ts
 lawful-form at c = lawful-check _ _ _ (test_decided (is_built c))
 
 lawful-mode : (env : Environment) (at : ℕ) (c : Command) → Lawful (judge_mode env at c)

@@ -1,10 +1,7 @@
 -- The named terms that a walk over terms finds, one after the other, as definitions.
-use Rattle.std.proofs.Common.{◌≡◌, ℕ, zero, suc, ◌<◌, ◌≤◌, List, [], ◌∷◌, ◌++◌, length, map, take, drop, Option, Some, None, slice_get, slice_index_or, arith, refl, ap, sym, ◌∙◌, append_assoc, append-nil}
+use Rattle.std.proofs.Common.{◌≡◌, ℕ, zero, suc, ◌<◌, ◌≤◌, List, [], ◌∷◌, ◌++◌, length, map, drop, Option, Some, None, slice_index_or, arith, refl, ap, sym, ◌∙◌, append_assoc, append-nil}
 use Rattle.std.proofs.lemmas.List.{map-append}
 use Rattle.sort_store.specs.declared.head.DeclNo.{DeclNo}
-use Rattle.sort_store.specs.declared.head.Head.{Head}
-use Rattle.sort_store.specs.Tree.{NumberedSort, Sort, sort, sorts, head, parts}
-use Rattle.sort_store.specs.Tree as sort_tree
 use Rattle.term_store.specs.Command.{PlainDef, plain_def}
 use Rattle.term_store.specs.Declarations.{Declaration, names_in_all, names_in_each, names_in, term_name}
 use Rattle.term_store.specs.NumberedNodes.{terms}
@@ -12,7 +9,6 @@ use Rattle.term_store.specs.SoundScript.{named_def}
 use Rattle.term_store.specs.Term.{NumberedTerm, PlainTerm, trees}
 use Rattle.term_store.specs.Term as term_tree
 use Rattle.term_store.specs.declared.command.Def.{Def}
-use Rattle.typer.proofs.CapturedSymbols.{part_smaller}
 use Rattle.typer.proofs.FreeWalks.{count_parts, tree_parts}
 use Rattle.script_core.specs.Keeping.{defined_by, defined_in, with_some}
 use Rattle.script_core.proofs.BoolTerms.{term_sort}
@@ -50,25 +46,6 @@ pub names_listed : (ts : List NumberedTerm) → names_in_each (trees (terms ts))
 names_listed [] = refl
 names_listed (t ∷ ts) = ap (λ ds. names_in (term_tree.tree t) ++ ds) (names_listed ts)
 
--- a sort by its arguments
-pub sort_of_parts : (r : NumberedSort) → sort (head r) (sorts (map sort_tree.tree (parts r))) ≡ sort_tree.tree r
-sort_of_parts (sort_tree.node n h rs) = ap (sort h) (each rs)
-  where
-    each : (rs : sort_tree.NumberedSorts) → sorts (map sort_tree.tree (sort_tree.node_list rs)) ≡ sort_tree.trees rs
-    each sort_tree.no_nodes = refl
-    each (sort_tree.more_nodes r rs) = ap (sort_tree.more_sorts (sort_tree.tree r)) (each rs)
-
-pub take_some : {X : Type 0} (xs : List X) (k : ℕ) (x : X) → slice_get xs k ≡ Some x → take (suc k) xs ≡ take k xs ++ x ∷ []
-take_some [] k x e = cc
-take_some (y ∷ ys) zero x e = let same : y ≡ x = cc in ap (λ z. z ∷ []) same
-take_some (y ∷ ys) (suc k) x e = ap (λ zs. y ∷ zs) (take_some ys k x e)
-
-pub take_none : {X : Type 0} (xs : List X) (k : ℕ) → slice_get xs k ≡ None → take (suc k) xs ≡ take k xs
-take_none [] zero e = refl
-take_none [] (suc k) e = refl
-take_none (y ∷ ys) zero e = cc
-take_none (y ∷ ys) (suc k) e = ap (λ zs. y ∷ zs) (take_none ys k e)
-
 -- the next part of a list, where the parts that are left come after it
 drop_at : {X : Type 0} (xs : List X) (i : ℕ) (x : X) → i < length xs → x ≡ slice_index_or xs i x → drop i xs ≡ x ∷ drop (suc i) xs
 drop_at [] i x l e = absurd (omega (arith, l))
@@ -87,31 +64,6 @@ module _ {X : Type 0} (xs : List X) (i n : ℕ) (x : X) (next : n ≡ suc i) (fe
   pub count_on : (count : List X → ℕ) → ((y : X) (ys : List X) → count ys ≤ count (y ∷ ys)) → (all : ℕ) → count (drop i xs) ≤ all → count (drop n xs) ≤ all
   count_on count more all l = omega (arith, more x (drop n xs), l, ap count here_is)
 
--- the arguments of a sort that are made, with one more or with none
-pub made_more : (parts : List NumberedSort) (k n : ℕ) (here new : List NumberedSort) (r made : NumberedSort) → n ≡ suc k → slice_get parts k ≡ Some r → sort_tree.tree made ≡ sort_tree.tree r → new ≡ here ++ made ∷ []
-    → map sort_tree.tree here ≡ map sort_tree.tree (take k parts) → map sort_tree.tree new ≡ map sort_tree.tree (take n parts)
-made_more parts k n here new r made next at same put e =
-    ap (map sort_tree.tree) put ∙ (map-append sort_tree.tree here (made ∷ []) ∙ (ap (λ ts. ts ++ sort_tree.tree made ∷ []) e ∙ (ap (λ t. map sort_tree.tree (take k parts) ++ t ∷ []) same
-    ∙ sym (ap (λ m. map sort_tree.tree (take m parts)) next ∙ (ap (map sort_tree.tree) (take_some parts k r at) ∙ map-append sort_tree.tree (take k parts) (r ∷ []))))))
-
-pub made_same : (parts : List NumberedSort) (k n : ℕ) (ts : List Sort) → n ≡ suc k → slice_get parts k ≡ None → ts ≡ map sort_tree.tree (take k parts) → ts ≡ map sort_tree.tree (take n parts)
-made_same parts k n ts next at e = e ∙ sym (ap (λ m. map sort_tree.tree (take m parts)) next ∙ ap (map sort_tree.tree) (take_none parts k at))
-
-take_whole : {X : Type 0} (xs : List X) (n : ℕ) → length xs ≤ n → take n xs ≡ xs
-take_whole [] zero l = refl
-take_whole [] (suc n) l = refl
-take_whole (x ∷ xs) zero l = absurd (omega (arith, l))
-take_whole (x ∷ xs) (suc n) l = ap (λ ys. x ∷ ys) (take_whole xs n (omega (arith, l)))
-
--- all arguments are made
-pub sort_made : (r : NumberedSort) (h : Head) (k : ℕ) (shown here : List NumberedSort) (t : Sort) → t ≡ sort h (sorts (map sort_tree.tree shown)) → h ≡ head r → shown ≡ here → map sort_tree.tree here ≡ map sort_tree.tree (take k (parts r)) → length (parts r) ≤ k
-    → t ≡ sort_tree.tree r
-sort_made r h k shown here t made is seen e all =
-    made ∙ (ap (λ z. sort z (sorts (map sort_tree.tree shown))) is
-    ∙ (ap (λ ts. sort (head r) (sorts ts)) (ap (map sort_tree.tree) seen ∙ (e ∙ ap (map sort_tree.tree) (take_whole (parts r) k all))) ∙ sort_of_parts r))
-
 pub ruleset sort_words = (term_sort)
 
 pub ruleset name_words = (tree_parts, count_parts, adds_none, adds_both, adds_step, adds_end, adds_one, names_listed)
-
-pub ruleset store_words = (part_smaller)

@@ -1,50 +1,17 @@
 -- The rules on the form and the mode of a command, and on what a definition says before its body, declare no name.
 use Rattle.std.proofs.Common.{ℕ, List, [], ◌∷◌, ◌++◌}
 use Rattle.judgement.specs.Judging.{DeclaresNone}
-use Rattle.judgement.proofs.NamesKept.{none-check, none-done, none-refuse, none-then}
+use Rattle.judgement.proofs.NamesKept.{none-check, none-done, none-then}
 use Rattle.lex_core.specs.declared.token.Tok.{Tok}
 use Rattle.term_grammar.specs.Syntax as syntax
-use Rattle.term_grammar.specs.Syntax.{SortedSymbol, Term, constant, qualified_term, application, let_in, for_all, there_exists, match_with, annotated, Terms, no_terms, with_term, Bindings, no_bindings, with_binding, Notes, no_notes, with_note, Note, named_note, pattern_note, attribute_note}
-use Rattle.cmd_grammar.specs.Commands.{Command, FunDec, assert, define_fun, define_fun_rec, define_funs_rec, echo, exit, get_info, get_option, get_value, pop, push, reset, set_info, set_logic, set_option}
+use Rattle.term_grammar.specs.Syntax.{SortedSymbol}
+use Rattle.cmd_grammar.specs.Commands.{Command, FunDec, echo, exit, get_info, get_option, pop, push, reset, set_info, set_logic, set_option}
 use Rattle.term_store.specs.Command.{PlainCommand}
 use Rattle.typer.proofs.SortLaws.{none-sort}
 use Rattle.script_core.specs.Environment.{Environment}
-use Rattle.script_core.specs.Rules.{judge_all_built, judge_bindings_built, judge_built, judge_form, judge_fragment, judge_header, judge_headers, judge_mode, judge_note_built, judge_notes_built, judge_variables, with_header}
-
-mutual
-  none-built : (t : Term) → DeclaresNone (judge_built t)
-  none-built (constant c) = none-done _
-  none-built (qualified_term q) = none-done _
-  none-built (application at q ts) = none-all_built ts
-  none-built (let_in at bs u) = none-then _ _ (none-bindings_built bs) (λ v. none-built u)
-  none-built (for_all at vs u) = none-built u
-  none-built (there_exists at vs u) = none-built u
-  none-built (match_with at u cs) = none-refuse _ _
-  none-built (annotated at u ns) = none-then _ _ (none-built u) (λ v. none-notes_built ns)
-
-  none-all_built : (ts : Terms) → DeclaresNone (judge_all_built ts)
-  none-all_built no_terms = none-done _
-  none-all_built (with_term t ts) = none-then _ _ (none-built t) (λ v. none-all_built ts)
-
-  none-bindings_built : (bs : Bindings) → DeclaresNone (judge_bindings_built bs)
-  none-bindings_built no_bindings = none-done _
-  none-bindings_built (with_binding at x t bs) = none-then _ _ (none-built t) (λ v. none-bindings_built bs)
-
-  none-notes_built : (ns : Notes) → DeclaresNone (judge_notes_built ns)
-  none-notes_built no_notes = none-done _
-  none-notes_built (with_note n ns) = none-then _ _ (none-note_built n) (λ v. none-notes_built ns)
-
-  none-note_built : (n : Note) → DeclaresNone (judge_note_built n)
-  none-note_built (named_note t) = none-done _
-  none-note_built (pattern_note ts) = none-all_built ts
-  none-note_built (attribute_note a) = none-done _
+use Rattle.script_core.specs.Rules.{judge_form, judge_fragment, judge_header, judge_headers, judge_mode, judge_variables, with_header}
 
 pub none-form : (at : ℕ) (c : Command) → DeclaresNone (judge_form at c)
-none-form at (assert t) = none-built t
-none-form at (define_fun f) = none-built f.body
-none-form at (define_fun_rec f) = none-built f.body
-none-form at (define_funs_rec fs ts) = none-all_built ts
-none-form at (get_value ts) = none-all_built ts
 none-form at c = none-check _ _ _
 
 pub none-mode : (env : Environment) (at : ℕ) (c : Command) → DeclaresNone (judge_mode env at c)

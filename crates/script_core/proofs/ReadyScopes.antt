@@ -9,7 +9,9 @@ use Rattle.scope_stack.specs.declared.entry.FunEntry.{FunEntry}
 use Rattle.scope_stack.specs.declared.entry.SortEntry.{SortEntry}
 use Rattle.scope_stack.specs.Environment.{Environment as Scopes}
 use Rattle.scope_stack.specs.Environment as scopes
-use Rattle.typer.specs.Ready.{IsReady, IsReadyFunEntry, IsReadySort, IsReadySortEntry}
+use Rattle.term_store.specs.Script.{Kept}
+use Rattle.typer.specs.FunctionSymbols.{datatypes_of}
+use Rattle.typer.specs.Ready.{IsReady, IsReadyDatatype, IsReadyFunEntry, IsReadySort, IsReadySortEntry}
 use Rattle.typer.specs.SortSymbols.{is_theory_sort}
 use Rattle.typer.specs.declared.world.World.{World}
 use Rattle.typer.proofs.LiveDeclarations.{all_of_each}
@@ -55,11 +57,12 @@ module _ (scope : Scope) (s : Scopes) (next : ℕ) (stands : IsReadyScope scope)
   forgotten_stands e = stands_with _ e (ready_without_assertions scope.world stands.ready)
 
 -- a world without declarations is ready under any theories
-ready_undeclared : (world : World) → HasNone world.scopes → HasNoRepeats world.sorts → length world.seen.items ≤ world.next.0 → IsReady world
-ready_undeclared world none distinct numbered = record {
+ready_undeclared : (world : World) → HasNone world.scopes → HasNoRepeats world.sorts → All IsReadyDatatype (datatypes_of world.script) → length world.seen.items ≤ world.next.0 → IsReady world
+ready_undeclared world none distinct datatypes numbered = record {
   distinct = distinct;
   sorts = subst (λ (ds : List (ℕ × SortEntry)). All (IsReadySort world.names world.theories world.sorts) ds) (sym none.sorts) (all_of_each _ [] tt);
   funs = subst (λ (ds : List (ℕ × FunEntry)). All (λ (d : ℕ × FunEntry). IsReadyFunEntry world.sorts d.1) ds) (sym none.funs) (all_of_each _ [] tt);
+  datatypes = datatypes;
   numbered = numbered;
 }
 
@@ -69,7 +72,7 @@ under_theories theories logic scope = record scope { world = record scope.world 
 -- a logic brings its theories
 pub logic_stands : (scope : Scope) (theories : Theories) → IsReadyScope scope → scope.logic ≡ false → IsReadyScope (under_theories theories true scope)
 logic_stands scope theories stands unset =
-    stands_under (under_theories theories true scope) refl (ready_undeclared (record scope.world { theories = theories }) (stands.undeclared unset) stands.ready.distinct stands.ready.numbered)
+    stands_under (under_theories theories true scope) refl (ready_undeclared (record scope.world { theories = theories }) (stands.undeclared unset) stands.ready.distinct stands.ready.datatypes stands.ready.numbered)
 
 pub none_in : (s : Scopes) → s ≡ scopes.empty → HasNone s
 none_in s e = subst HasNone (sym e) (record { funs = refl; sorts = refl })
@@ -77,7 +80,7 @@ none_in s e = subst HasNone (sym e) (record { funs = refl; sorts = refl })
 -- nothing is declared after reset, whatever the theories are
 pub reset_stands : (scope : Scope) (s : Scopes) (theories : Theories) → IsReadyScope scope → s ≡ scopes.empty → IsReadyScope (under_theories theories false (with_scopes s scope))
 reset_stands scope s theories stands e = record {
-  ready = ready_undeclared (record scope.world { scopes = s; theories = theories }) (none_in s e) stands.ready.distinct stands.ready.numbered;
+  ready = ready_undeclared (record scope.world { scopes = s; theories = theories }) (none_in s e) stands.ready.distinct stands.ready.datatypes stands.ready.numbered;
   undeclared = λ unset. none_in s e;
 }
 
@@ -111,3 +114,16 @@ constant_stands scope store s next name d stands set g distinct e args params re
 -- the scopes are as they were
 pub scopes_stand : (scope : Scope) (s : Scopes) → s ≡ scope.world.scopes → IsReadyScope scope → IsReadyScope (with_scopes s scope)
 scopes_stand scope s same stands = subst (λ (x : Scopes). IsReadyScope (with_scopes x scope)) (sym same) stands
+
+-- the script is another, with the same datatypes
+pub script_stands : (scope : Scope) (script : Kept) → datatypes_of scope.world.script ≡ datatypes_of script → IsReadyScope scope → IsReadyScope (record scope { world = record scope.world { script = script } })
+script_stands scope script same stands = record {
+  ready = record {
+    distinct = stands.ready.distinct;
+    sorts = stands.ready.sorts;
+    funs = stands.ready.funs;
+    datatypes = subst (All IsReadyDatatype) same stands.ready.datatypes;
+    numbered = stands.ready.numbered;
+  };
+  undeclared = stands.undeclared;
+}

@@ -12,14 +12,13 @@ use Rattle.sexp_core.specs.Sexp.{FlatToken, Opening, Closing, Word, Sexp, atom, 
 use Rattle.judgement.specs.Judging.{Judging, Outcome, ◌>>=◌, check, done, ill_sorted, well_sorted}
 use Rattle.term_grammar.specs.declared.words.TheConstants.{GLOBAL_DECLARATIONS}
 use Rattle.term_grammar.specs.Reads.{byte_of}
-use Rattle.term_grammar.specs.Syntax.{Term, constant, qualified_term, application, let_in, for_all, there_exists, match_with, annotated, Terms, no_terms, with_term, Bindings, no_bindings, with_binding, Notes, no_notes, with_note, Note, named_note, pattern_note, attribute_note}
 use Rattle.term_store.specs.Command.{PlainCommand, PlainDef, plain_command, plain_def}
 use Rattle.term_store.specs.Command as typed
 use Rattle.term_store.specs.Declarations.{declared_by, declared_in}
 use Rattle.term_store.specs.declared.command.Def.{Def}
 use Rattle.logic_frag.specs.FragmentRules.{DefinesRecursively, HasTerm, IsQuantifier}
 use Rattle.logic_frag.proofs.FoundParts.{has_quantified}
-use Rattle.cmd_grammar.specs.Commands.{Command, FunDec, assert, declare_const, declare_fun, declare_sort, define_fun, define_fun_rec, define_funs_rec, define_sort, echo, exit, get_info, get_option, get_value, pop, push, reset, set_info, set_logic, set_option}
+use Rattle.cmd_grammar.specs.Commands.{Command, FunDec, declare_const, declare_fun, declare_sort, define_fun, define_fun_rec, define_funs_rec, define_sort, echo, exit, get_info, get_option, pop, push, reset, set_info, set_logic, set_option}
 use Rattle.cmd_grammar.specs.CommandReads.{read_command}
 use Rattle.cmd_grammar.specs.Grammar.{ReadsCommand, ReadsEach, ReadsFunDec}
 use Rattle.cmd_grammar.proofs.GrammarAgrees.{found_fault, found_reads}
@@ -39,9 +38,10 @@ use Rattle.script_core.specs.Effects.{AreNamed, IsDeclaredNamed, IsInMode, IsSam
 use Rattle.script_core.specs.Environment.{Environment, logic_theories, text_of}
 use Rattle.script_core.specs.Interned.{AreInterned}
 use Rattle.script_core.specs.Keeping.{EachUnused, KeepsBelow, KeepsDefined, KeepsEarlier, KeepsPart, defined_in, definitions_in, with_definitions}
-use Rattle.script_core.specs.RuleAnswers.{Answer, answer_all_built, answer_bindings_built, answer_built, answer_form, answer_fragment, answer_mode, answer_note_built, answer_notes_built, both, is_quantified, is_recursive, test}
-use Rattle.script_core.specs.Rules.{is_built, judge_all_built, judge_bindings_built, judge_built, judge_form, judge_fragment, judge_mode, judge_note_built, judge_notes_built, judge_own, judge_parts, named_by, value_of, with_names_given}
+use Rattle.script_core.specs.RuleAnswers.{Answer, answer_form, answer_fragment, answer_mode, both, is_quantified, is_recursive, test}
+use Rattle.script_core.specs.Rules.{is_built, judge_form, judge_fragment, judge_mode, judge_own, judge_parts, named_by, value_of, with_names_given}
 use Rattle.typer.specs.TermRules.{attribute_key}
+use Rattle.typer.specs.FunctionSymbols.{datatypes_of}
 use Rattle.script_core.specs.Steps.{is_exit, judge_own_tree, judge_tree}
 use Rattle.script_core.proofs.KeptNumbers.{each_unused, part_earlier}
 use Rattle.script_core.proofs.NamedLogic.{logic_of_parts}
@@ -75,40 +75,7 @@ not_met false rule at = (refl, refl)
 most_met : (m n : ℕ) (rule : Code) (at : ℕ) → IsMet (check (m ≤ n) rule at) (test (nat_le m n) rule at)
 most_met m n rule at = test_met (m ≤ n) (nat_le m n) rule at (leb-true m n) (λ e h. false≢true (sym e ∙ le-leb m n h))
 
-mutual
-  built_met : (t : Term) → IsMet (judge_built t) (answer_built t)
-  built_met (constant c) = (refl, refl)
-  built_met (qualified_term q) = (refl, refl)
-  built_met (application at q ts) = all_built_met ts
-  built_met (let_in at bs u) = then_met (judge_bindings_built bs) (judge_built u) (answer_bindings_built bs) (answer_built u) (bindings_built_met bs) (built_met u)
-  built_met (for_all at vs u) = built_met u
-  built_met (there_exists at vs u) = built_met u
-  built_met (match_with at u cs) = refl
-  built_met (annotated at u ns) = then_met (judge_built u) (judge_notes_built ns) (answer_built u) (answer_notes_built ns) (built_met u) (notes_built_met ns)
-
-  all_built_met : (ts : Terms) → IsMet (judge_all_built ts) (answer_all_built ts)
-  all_built_met no_terms = (refl, refl)
-  all_built_met (with_term t ts) = then_met (judge_built t) (judge_all_built ts) (answer_built t) (answer_all_built ts) (built_met t) (all_built_met ts)
-
-  bindings_built_met : (bs : Bindings) → IsMet (judge_bindings_built bs) (answer_bindings_built bs)
-  bindings_built_met no_bindings = (refl, refl)
-  bindings_built_met (with_binding at x t bs) = then_met (judge_built t) (judge_bindings_built bs) (answer_built t) (answer_bindings_built bs) (built_met t) (bindings_built_met bs)
-
-  notes_built_met : (ns : Notes) → IsMet (judge_notes_built ns) (answer_notes_built ns)
-  notes_built_met no_notes = (refl, refl)
-  notes_built_met (with_note n ns) = then_met (judge_note_built n) (judge_notes_built ns) (answer_note_built n) (answer_notes_built ns) (note_built_met n) (notes_built_met ns)
-
-  note_built_met : (n : Note) → IsMet (judge_note_built n) (answer_note_built n)
-  note_built_met (named_note t) = (refl, refl)
-  note_built_met (pattern_note ts) = all_built_met ts
-  note_built_met (attribute_note a) = (refl, refl)
-
 form_met : (at : ℕ) (c : Command) → IsMet (judge_form at c) (answer_form at c)
-form_met at (assert t) = built_met t
-form_met at (define_fun f) = built_met f.body
-form_met at (define_fun_rec f) = built_met f.body
-form_met at (define_funs_rec fs ts) = all_built_met ts
-form_met at (get_value ts) = all_built_met ts
 form_met at c = is_met (is_built c) code.WrongCommandForm at
 
 mode_met : (env : Environment) (at : ℕ) (c : Command) → IsMet (judge_mode env at c) (answer_mode env at c)
@@ -379,6 +346,10 @@ keeps_more old kept new c defs own with_own pushed keeps =
       no_datatypes = keeps.no_datatypes;
     })
 
+-- no datatype comes or goes with the definitions of a command
+pub same_datatypes : (old kept new : Kept) (c : TypedCommand) (defs : List Def) → kept ≡ with_definitions old defs → new ≡ record { commands = kept.commands ++ c ∷ []; defs = kept.defs } → datatypes_of old ≡ datatypes_of new
+same_datatypes old kept new c defs with_own pushed = sym (ap datatypes_of pushed ∙ ap datatypes_of with_own)
+
 -- the tree is read as a command, which is put last
 pub tree_takes : (old mid : Scope) (kept after : Kept) (names : List ℕ) (t : Sexp Tok) (taken : Taken) (shown : List Def) (p : Progress) → shown ≡ taken.named.items → MeetsTree old t (Ok taken) (environment_of old.world.names mid) names
     → map plain_def taken.named.items ≡ defined_in (named_by (plain_command taken.command)) → mid.world.script ≡ old.world.script → kept ≡ with_definitions mid.world.script (definitions_in taken.command ++ shown)
@@ -386,7 +357,8 @@ pub tree_takes : (old mid : Scope) (kept after : Kept) (names : List ℕ) (t : S
 tree_takes old mid kept after names t taken shown p seen h named same with_own pushed goes = record {
   command = plain_command taken.command;
   declared = names;
-  judged = h;
+  judged = subst (λ ds. judge_tree (environment_of old.world.names old) t [] (well_sorted (plain_command taken.command, record (environment_of old.world.names mid) { datatypes = ds }) names))
+      (same_datatypes mid.world.script kept after taken.command (definitions_in taken.command ++ shown) with_own pushed) h;
   goes_on = goes;
   put_last = ap commands_of pushed
       ∙ (map-append plain_command kept.commands (taken.command ∷ []) ∙ (ap (λ (k : Kept). commands_of k ++ plain_command taken.command ∷ []) with_own ∙ ap (λ (k : Kept). commands_of k ++ plain_command taken.command ∷ []) same));

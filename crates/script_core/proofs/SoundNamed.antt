@@ -113,6 +113,7 @@ module _ (script : List Declaration) where
       is_declared = declared;
       number_is = refl;
       ranks = λ values e. (refl, no_values (plain_sort t) values e);
+      tester = λ e. cc;
     }
 
     all_funs : All OfFun (live (with_fun m live_name env.declarations).funs)
@@ -121,7 +122,7 @@ module _ (script : List Declaration) where
 
     name_live : IsSoundEnv script (with_name env (named_def d m t))
     name_live = record {
-      signature = record { table = sound.signature.table; sorts = sound.signature.sorts; funs = λ k f l. (all_funs k f l).0 };
+      signature = record { table = sound.signature.table; sorts = sound.signature.sorts; funs = λ k f l. (all_funs k f l).0; datatypes = sound.signature.datatypes };
       below = λ k f l. (all_funs k f l).1;
     }
 

@@ -60,7 +60,7 @@ with_names_live script env c made s numbered declares = record {
 list_step : (script : List Declaration) (env : Environment) (t : Sexp Token) (c : PlainCommand) (new : Environment) → IsSoundEnv script env → ListSteps env t c new → Declares script c → IsSoundList script env c new
 list_step script env t c new sound (declared, (raw, between, reads, (made, later, (u, first, form, (v, second, mode, (own, third, parts, (w, fourth, fragment, (g, i))))), (e, f)))) declares =
     let named : IsSoundEnv script (with_names env t) = record {
-      signature = record { table = table_stays (flat t) env.names sound.signature.table; sorts = sound.signature.sorts; funs = sound.signature.funs };
+      signature = record { table = table_stays (flat t) env.names sound.signature.table; sorts = sound.signature.sorts; funs = sound.signature.funs; datatypes = sound.signature.datatypes };
       below = sound.below;
     } in
     let begins = parts_begin (with_names env t) _ raw _ between first second reads form mode in
@@ -114,7 +114,7 @@ run_sound script (t ∷ ts) env run (inr (inr (c, after, steps, goes, rest, runs
     (one_command script env after c rest.commands s (run_sound script ts after rest runs s.leads (others_declared script c rest.commands known)))
 
 start_sound : (script : List Declaration) → IsSoundEnv script start
-start_sound script = record { signature = record { table = record { fixed = refl; distinct = refl }; sorts = all_of_each _ [] tt; funs = all_of_each _ [] tt }; below = all_of_each _ [] tt }
+start_sound script = record { signature = record { table = record { fixed = refl; distinct = refl }; sorts = all_of_each _ [] tt; funs = all_of_each _ [] tt; datatypes = all_of_each _ [] tt }; below = all_of_each _ [] tt }
 
 from_start : (ts : List (Sexp Token)) (run : Run) → Runs start ts run → IsSoundRun (declared_in run.commands) start run.commands
 from_start ts run runs = run_sound (declared_in run.commands) ts start run runs (start_sound (declared_in run.commands)) (λ d h. h)

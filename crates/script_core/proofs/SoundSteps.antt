@@ -77,7 +77,7 @@ none_of P ds e = subst (λ (l : List Declaration). Each P l) (sym e) tt
 
 -- the number of the first name that a command declares plays no part
 signature_sound : (script : List Declaration) (first : ℕ) (env : Environment) → IsSoundEnv script env → IsSoundSignature script (signature_from first env)
-signature_sound script first env sound = record { table = sound.signature.table; sorts = sound.signature.sorts; funs = sound.signature.funs }
+signature_sound script first env sound = record { table = sound.signature.table; sorts = sound.signature.sorts; funs = sound.signature.funs; datatypes = sound.signature.datatypes }
 
 good_append : (script : List Declaration) (n : ℕ) (ds es : List Declaration) → AreGoodNames script n ds → AreGoodNames script n es → AreGoodNames script n (ds ++ es)
 good_append script n ds es h k = record { sound = append_named (IsSoundAnywhere script) ds es h.sound k.sound; lower = append_named (AppliesBelow n) ds es h.lower k.lower }
@@ -192,7 +192,7 @@ module _ (script : List Declaration) (env : Environment) (sound : IsSoundEnv scr
   -- declarations of which each live one is sound
   sound_with : (next : ℕ) (d : Declarations) → HasSoundSorts script d → All (OfFun next) (live d.funs) → IsSoundEnv script (record env { declarations = d; next = next })
   sound_with next d sorts funs = record {
-    signature = record { table = sound.signature.table; sorts = sorts; funs = λ k f l. (funs k f l).0 };
+    signature = record { table = sound.signature.table; sorts = sorts; funs = λ k f l. (funs k f l).0; datatypes = sound.signature.datatypes };
     below = λ k f l. (funs k f l).1;
   }
 
@@ -233,6 +233,7 @@ module _ (script : List Declaration) (env : Environment) (sound : IsSoundEnv scr
         is_declared = declares;
         number_is = number;
         ranks = ranks;
+        tester = λ e. cc;
       } in
       sound_with (env.next + 1) (with_fun name f env.declarations) sound.signature.sorts
       (all_of_each (OfFun (env.next + 1)) _ (each_declared (OfFun (env.next + 1)) env.declarations.global (name, f) env.declarations.funs (entry, omega arith) (funs_each (env.next + 1) (omega arith))))
@@ -289,10 +290,10 @@ module _ (script : List Declaration) (env : Environment) (sound : IsSoundEnv scr
       (sound_with env.next (with_popped n env.declarations) (all_of_each OfSort _ (each_closed OfSort n env.declarations.sorts sorts_each)) (all_of_each (OfFun env.next) _ (each_closed (OfFun env.next) n env.declarations.funs funs_now)))
       (λ cs h. (enough, subst (λ (m : ℕ). KeepsLevels m cs) (length-closed n env.declarations.funs) h)) refl (no_names script env.next) tt
 
-  reset_step : IsSoundStep script env typed.reset (record start_env { names = env.names; next = env.next })
+  reset_step : IsSoundStep script env typed.reset (record start_env { names = env.names; datatypes = env.datatypes; next = env.next })
   reset_step =
-      quiet typed.reset (record start_env { names = env.names; next = env.next }) (record {
-        signature = record { table = sound.signature.table; sorts = all_of_each OfSort [] tt; funs = all_of_each (λ (d : ℕ × FunDeclaration). IsSoundFunction script d.1) [] tt };
+      quiet typed.reset (record start_env { names = env.names; datatypes = env.datatypes; next = env.next }) (record {
+        signature = record { table = sound.signature.table; sorts = all_of_each OfSort [] tt; funs = all_of_each (λ (d : ℕ × FunDeclaration). IsSoundFunction script d.1) [] tt; datatypes = sound.signature.datatypes };
         below = all_of_each (λ (d : ℕ × FunDeclaration). d.1.number.0 < env.next) [] tt;
       }) (λ cs h. h) refl (no_names script env.next) tt
 
@@ -465,14 +466,14 @@ module _ (script : List Declaration) (env : Environment) (sound : IsSoundEnv scr
       step_of script env c (typed.get_value us) new env e (λ known. quiet script env sound (typed.get_value us) env sound (λ cs k. k) refl l.1 (all_of_each (IsSoundIn script) us l.0)) declares
   parts_step at (set_logic n) c new first second before after mode (e, f) declares =
       step_of script env c (typed.set_logic n.name) new (record env { logic = true; theories = theories_of env n }) e
-      (λ known. quiet script env sound (typed.set_logic n.name) (record env { logic = true; theories = theories_of env n }) (record { signature = record { table = sound.signature.table; sorts = sound.signature.sorts; funs = sound.signature.funs }; below = sound.below }) (λ cs k. k) refl (no_names script env.next) tt) declares
+      (λ known. quiet script env sound (typed.set_logic n.name) (record env { logic = true; theories = theories_of env n }) (record { signature = record { table = sound.signature.table; sorts = sound.signature.sorts; funs = sound.signature.funs; datatypes = sound.signature.datatypes }; below = sound.below }) (λ cs k. k) refl (no_names script env.next) tt) declares
   parts_step at (set_option a) c new first second before after mode (e, f) declares =
       step_of script env c (typed.set_option (attribute_key a).name (attribute_value a)) new (after_option env a) e (λ known. option_step script env sound a (attribute_key a).name (attribute_value a)) declares
   parts_step at (push n) c new first second before after mode (e, f) declares =
       step_of script env c (typed.push (value_of env n)) new (record env { declarations = with_pushed (value_of env n) env.declarations }) e (λ known. push_step script env sound (value_of env n) mode.3.0) declares
   parts_step at (pop n) c new first second before after mode (e, f) declares =
       step_of script env c (typed.pop (value_of env n)) new (record env { declarations = with_popped (value_of env n) env.declarations }) e (λ known. pop_step script env sound (value_of env n) mode.3.0) declares
-  parts_step at reset c new first second before after mode (e, f) declares = step_of script env c typed.reset new (record start_env { names = env.names; next = env.next }) e (λ known. reset_step script env sound) declares
+  parts_step at reset c new first second before after mode (e, f) declares = step_of script env c typed.reset new (record start_env { names = env.names; datatypes = env.datatypes; next = env.next }) e (λ known. reset_step script env sound) declares
   parts_step at reset_assertions c new first second before after mode (e, f) declares =
       step_of script env c typed.reset_assertions new (record env { declarations = without_assertions env.declarations }) e (λ known. forgotten_step script env sound) declares
   parts_step at raw c new first second before after mode h declares = found_step script env sound raw at c new before after h declares

@@ -13,6 +13,7 @@ use Rattle.judgement.specs.Judging.{ill_sorted, well_sorted}
 use Rattle.typer.specs.Declarations.{declarations_of}
 use Rattle.scope_stack.specs.Environment.{Environment as Scopes}
 use Rattle.scope_stack.specs.Levels.{live}
+use Rattle.typer.specs.FunctionSymbols.{datatypes_of}
 use Rattle.typer.specs.Ready.{IsReady}
 use Rattle.script_core.specs.declared.checker.Checker.{Checker}
 use Rattle.script_core.specs.declared.refusal.Progress.{Progress}
@@ -37,7 +38,7 @@ texts_of texts tokens = map (map_flat (token_of texts)) tokens
 -- what a scope keeps of an environment
 abbrev pub environment_of : List (List ℕ) → Scope → Environment
 environment_of names scope =
-    record { names = names; logic = scope.logic; theories = scope.world.theories; declarations = declarations_of scope.world.scopes; next = scope.next }
+    record { names = names; logic = scope.logic; theories = scope.world.theories; declarations = declarations_of scope.world.scopes; datatypes = datatypes_of scope.world.script; next = scope.next }
 
 -- no declaration is live
 pub record HasNone (scopes : Scopes) : Type 0 where

@@ -15,8 +15,8 @@ use Rattle.term_store.specs.Command.{plain_command}
 use Rattle.term_store.specs.Term.{NumberedTerm, plain_var, tree as term_tree}
 use Rattle.typer.specs.FunctionSymbols.{first_number}
 use Rattle.typer.specs.Ready.{IsReadySchema}
-use Rattle.typer.specs.declared.error.TyError.{TyError}
-use Rattle.typer.specs.declared.error.TyError.TheVariants as ty
+use Rattle.dt_rules.specs.declared.error.TyError.{TyError}
+use Rattle.dt_rules.specs.declared.error.TyError.TheVariants as ty
 use Rattle.script_core.specs.Checking.{environment_of}
 use Rattle.script_core.specs.declared.definitions.FunHeader.{FunHeader}
 use Rattle.script_core.specs.declared.scope.Scope.{Scope}

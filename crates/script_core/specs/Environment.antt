@@ -4,6 +4,7 @@ use Rattle.std.specs.Option.{unwrap_or}
 use Rattle.lex_core.specs.NameTable.{fixed_texts}
 use Rattle.lex_core.specs.declared.token.Tok.{Tok}
 use Rattle.sig_table.specs.declared.theories.Theories.{Theories}
+use Rattle.term_store.specs.Command.{PlainDatatype}
 use Rattle.typer.specs.Declarations.{Declarations, no_declarations}
 use Rattle.typer.specs.FunctionSymbols.{Signature}
 
@@ -16,6 +17,8 @@ pub record Environment : Type 0 where
   pub theories : Theories
   -- the live declarations on their levels, and whether declarations are global
   pub declarations : Declarations
+  -- the datatypes declared so far; popped and reset they go on to stand for their sorts
+  pub datatypes : List PlainDatatype
   -- the number of the next declaration
   pub next : ℕ
 
@@ -36,7 +39,7 @@ logic_theories name =
 
 -- before the first command
 abbrev pub start : Environment
-start = record { names = fixed_texts; logic = false; theories = core_alone; declarations = no_declarations; next = 0 }
+start = record { names = fixed_texts; logic = false; theories = core_alone; declarations = no_declarations; datatypes = []; next = 0 }
 
 -- the text of a token
 abbrev pub text_of : Environment → Tok → List ℕ
@@ -48,7 +51,7 @@ theories_of env token = unwrap_or (logic_theories (text_of env token)) core_alon
 
 -- what the symbols of terms are looked up in, where this is the number of the first name that the command declares
 abbrev pub signature_from : ℕ → Environment → Signature
-signature_from first env = record { texts = env.names; declarations = env.declarations; theories = env.theories; first = first }
+signature_from first env = record { texts = env.names; declarations = env.declarations; datatypes = env.datatypes; theories = env.theories; first = first }
 
 abbrev pub signature_in : Environment → Signature
 signature_in env = signature_from env.next env

@@ -6,10 +6,9 @@ use Rattle.lex_core.specs.declared.token.Tok.{Tok}
 use Rattle.sig_table.specs.declared.code.Code.{Code}
 use Rattle.sig_table.specs.declared.code.Code.TheVariants as code
 use Rattle.term_grammar.specs.declared.words.TheConstants.{GLOBAL_DECLARATIONS}
-use Rattle.term_grammar.specs.declared.binder.RawBinding.{RawBinding}
 use Rattle.term_grammar.specs.declared.binder.RawVariable.{RawVariable}
-use Rattle.term_grammar.specs.Syntax.{SortedSymbol, Term, constant, qualified_term, application, let_in, for_all, there_exists, match_with, annotated, Terms, no_terms, with_term, Bindings, no_bindings, with_binding, Notes, no_notes, with_note, Note, named_note, pattern_note, attribute_note}
-use Rattle.cmd_grammar.specs.Commands.{Command, FunDec, Literal, assert, define_fun, define_fun_rec, define_funs_rec, echo, exit, get_info, get_option, get_value, pop, push, reset, set_info, set_logic, set_option}
+use Rattle.term_grammar.specs.Syntax.{SortedSymbol, Term, Terms, no_terms, with_term}
+use Rattle.cmd_grammar.specs.Commands.{Command, FunDec, Literal, echo, exit, get_info, get_option, pop, push, reset, set_info, set_logic, set_option}
 use Rattle.cmd_grammar.specs.declared.fun_dec.RawFunDec.{RawFunDec}
 use Rattle.cmd_grammar.specs.DeclarationViews.{fun_dec_seen, variable_seen}
 use Rattle.sig_table.specs.declared.theories.Theories.{Theories}
@@ -35,40 +34,7 @@ abbrev pub both : Answer → Answer → Answer
 both (Ok u) next = next
 both (Err place) next = Err place
 
-abbrev mutual
-  pub answer_built : Term → Answer
-  answer_built (constant c) = Ok tt
-  answer_built (qualified_term q) = Ok tt
-  answer_built (application at q ts) = answer_all_built ts
-  answer_built (let_in at bs u) = both (answer_bindings_built bs) (answer_built u)
-  answer_built (for_all at vs u) = answer_built u
-  answer_built (there_exists at vs u) = answer_built u
-  answer_built (match_with at u cs) = fault code.WrongTermForm at
-  answer_built (annotated at u ns) = both (answer_built u) (answer_notes_built ns)
-
-  pub answer_all_built : Terms → Answer
-  answer_all_built no_terms = Ok tt
-  answer_all_built (with_term t ts) = both (answer_built t) (answer_all_built ts)
-
-  pub answer_bindings_built : Bindings → Answer
-  answer_bindings_built no_bindings = Ok tt
-  answer_bindings_built (with_binding at x t bs) = both (answer_built t) (answer_bindings_built bs)
-
-  pub answer_notes_built : Notes → Answer
-  answer_notes_built no_notes = Ok tt
-  answer_notes_built (with_note n ns) = both (answer_note_built n) (answer_notes_built ns)
-
-  pub answer_note_built : Note → Answer
-  answer_note_built (named_note t) = Ok tt
-  answer_note_built (pattern_note ts) = answer_all_built ts
-  answer_note_built (attribute_note a) = Ok tt
-
 abbrev pub answer_form : ℕ → Command → Answer
-answer_form at (assert t) = answer_built t
-answer_form at (define_fun f) = answer_built f.body
-answer_form at (define_fun_rec f) = answer_built f.body
-answer_form at (define_funs_rec fs ts) = answer_all_built ts
-answer_form at (get_value ts) = answer_all_built ts
 answer_form at command = test (is_built command) code.WrongCommandForm at
 
 abbrev pub answer_push : Environment → ℕ → Tok → Answer
@@ -107,15 +73,6 @@ abbrev pub terms_left : Option (Term × Terms) → Terms
 terms_left None = no_terms
 terms_left (Some p) = with_term p.0 p.1
 
--- the bindings and the attributes that are left
-abbrev pub bindings_left : Option (RawBinding × Bindings) → Bindings
-bindings_left None = no_bindings
-bindings_left (Some p) = with_binding p.0.at p.0.name p.0.term p.1
-
-abbrev pub notes_left : Option (Note × Notes) → Notes
-notes_left None = no_notes
-notes_left (Some p) = with_note p.0 p.1
-
 -- the literals that are left
 abbrev pub literals_left : Option (Literal × List Literal) → List Literal
 literals_left None = []
@@ -135,29 +92,3 @@ variables_left (Some p) = variable_seen p.0 ∷ p.1
 abbrev pub fun_decs_left : Option (RawFunDec × List FunDec) → List FunDec
 fun_decs_left None = []
 fun_decs_left (Some p) = fun_dec_seen p.0 ∷ p.1
-
--- how much there is to judge
-abbrev mutual
-  pub term_size : Term → ℕ
-  term_size (application at q ts) = 1 + terms_size ts
-  term_size (let_in at bs u) = 1 + (bindings_size bs + term_size u)
-  term_size (for_all at vs u) = 1 + term_size u
-  term_size (there_exists at vs u) = 1 + term_size u
-  term_size (annotated at u ns) = 2 + (term_size u + notes_size ns)
-  term_size t = 1
-
-  pub terms_size : Terms → ℕ
-  terms_size no_terms = 0
-  terms_size (with_term t ts) = 1 + (term_size t + terms_size ts)
-
-  pub bindings_size : Bindings → ℕ
-  bindings_size no_bindings = 0
-  bindings_size (with_binding at x t bs) = 1 + (term_size t + bindings_size bs)
-
-  pub notes_size : Notes → ℕ
-  notes_size no_notes = 0
-  notes_size (with_note n ns) = 1 + (note_size n + notes_size ns)
-
-  pub note_size : Note → ℕ
-  note_size (pattern_note ts) = 1 + terms_size ts
-  note_size n = 0

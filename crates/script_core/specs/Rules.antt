@@ -12,7 +12,7 @@ use Rattle.sort_store.specs.CoreRanks.{bool}
 use Rattle.sort_store.specs.Tree as tree
 use Rattle.scope_stack.specs.declared.entry.FunKind.TheVariants as kind
 use Rattle.term_grammar.specs.declared.words.TheConstants.{GLOBAL_DECLARATIONS, TRUE}
-use Rattle.term_grammar.specs.Syntax.{Attribute, keyword_attribute, valued_attribute, Sort, SortedSymbol, Term, constant, qualified_term, application, let_in, for_all, there_exists, match_with, annotated, Terms, no_terms, with_term, Bindings, no_bindings, with_binding, Notes, no_notes, with_note, Note, named_note, pattern_note, attribute_note, term_at}
+use Rattle.term_grammar.specs.Syntax.{Attribute, keyword_attribute, valued_attribute, Sort, SortedSymbol, Term, Terms, no_terms, with_term, term_at}
 use Rattle.cmd_grammar.specs.DeclarationViews.{literal_term}
 use Rattle.cmd_grammar.specs.Commands.{Command, FunDec, Literal, assert, check_sat, check_sat_assuming, declare_const, declare_datatype, declare_datatypes, declare_fun, declare_sort, define_fun, define_fun_rec, define_funs_rec, define_sort, echo, exit, get_assertions, get_assignment, get_info, get_model, get_option, get_proof, get_unsat_assumptions, get_unsat_core, get_value, pop, push, reset, reset_assertions, set_info, set_logic, set_option}
 use Rattle.typer.specs.Numerals.{numeral_value}
@@ -34,52 +34,8 @@ is_built (declare_datatype n d) = false
 is_built (declare_datatypes ss ds) = false
 is_built command = true
 
--- The productions of terms that are built are all but match. The first match is the fault, a term before its parts.
-abbrev mutual
-  pub judge_built : Term → Judging (Unit {0})
-  judge_built (constant c) = done tt
-  judge_built (qualified_term q) = done tt
-  judge_built (application at q ts) = judge_all_built ts
-  judge_built (let_in at bs u) = do
-    _ ← judge_bindings_built bs
-    judge_built u
-  judge_built (for_all at vs u) = judge_built u
-  judge_built (there_exists at vs u) = judge_built u
-  judge_built (match_with at u cs) = refuse code.WrongTermForm at
-  judge_built (annotated at u ns) = do
-    _ ← judge_built u
-    judge_notes_built ns
-
-  pub judge_all_built : Terms → Judging (Unit {0})
-  judge_all_built no_terms = done tt
-  judge_all_built (with_term t ts) = do
-    _ ← judge_built t
-    judge_all_built ts
-
-  pub judge_bindings_built : Bindings → Judging (Unit {0})
-  judge_bindings_built no_bindings = done tt
-  judge_bindings_built (with_binding at x t bs) = do
-    _ ← judge_built t
-    judge_bindings_built bs
-
-  pub judge_notes_built : Notes → Judging (Unit {0})
-  judge_notes_built no_notes = done tt
-  judge_notes_built (with_note n ns) = do
-    _ ← judge_note_built n
-    judge_notes_built ns
-
-  pub judge_note_built : Note → Judging (Unit {0})
-  judge_note_built (named_note t) = done tt
-  judge_note_built (pattern_note ts) = judge_all_built ts
-  judge_note_built (attribute_note a) = done tt
-
 -- a command that is not built is refused before its terms
 abbrev pub judge_form : ℕ → Command → Judging (Unit {0})
-judge_form at (assert t) = judge_built t
-judge_form at (define_fun f) = judge_built f.body
-judge_form at (define_fun_rec f) = judge_built f.body
-judge_form at (define_funs_rec fs ts) = judge_all_built ts
-judge_form at (get_value ts) = judge_all_built ts
 judge_form at command = check (IsTrue (is_built command)) code.WrongCommandForm at
 
 -- the value of a numeral in the text
@@ -322,7 +278,7 @@ judge_parts env at (set_logic n) = done (typed.set_logic n.name, record env { lo
 judge_parts env at (set_option a) = done (typed.set_option (attribute_key a).name (attribute_value a), after_option env a)
 judge_parts env at (push n) = done (typed.push (value_of env n), record env { declarations = with_pushed (value_of env n) env.declarations })
 judge_parts env at (pop n) = done (typed.pop (value_of env n), record env { declarations = with_popped (value_of env n) env.declarations })
-judge_parts env at reset = done (typed.reset, record start { names = env.names; next = env.next })
+judge_parts env at reset = done (typed.reset, record start { names = env.names; datatypes = env.datatypes; next = env.next })
 judge_parts env at reset_assertions = done (typed.reset_assertions, record env { declarations = without_assertions env.declarations })
 judge_parts env at command = do
   c ← find (λ c. unchanging command ≡ Some c) code.WrongCommandForm at

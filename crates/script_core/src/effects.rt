@@ -5,6 +5,7 @@ ghost use Rattle.std.specs.List.{All, list_any};
 ghost use Rattle.sort_store.specs.CoreRanks.{bool};
 ghost use Rattle.sort_store.specs.Tree.{tree};
 ghost use Rattle.cmd_grammar.specs.Commands as command;
+ghost use Rattle.typer.specs.FunctionSymbols.{datatypes_of};
 ghost use Rattle.typer.specs.Ready.{IsReadySchema};
 ghost use Rattle.typer.specs.SortSymbols.{is_theory_sort};
 ghost use Rattle.typer.specs.Declarations.{without_assertions};
@@ -594,11 +595,11 @@ pub fn pop(scope: &mut Scope, at: u32, count: &Tok) -> Result<TypedCommand, Step
     }
 }
 
-/// Forgets all but the names, the sorts and terms made so far, and the next number.
+/// Forgets all but the names, the sorts and terms made so far, the datatypes by number, and the next number.
 pub fn reset(scope: &mut Scope)
     requires stands { IsReadyScope scope.old }
     ensures effect { let names = scope.old.world.names in
-        environment_of names scope.new ≡ record start { names = names; next = scope.old.next } }
+        environment_of names scope.new ≡ record start { names = names; datatypes = datatypes_of scope.old.world.script; next = scope.old.next } }
     ensures names { scope.new.world.names ≡ scope.old.world.names }
     ensures script { scope.new.world.script ≡ scope.old.world.script }
     ensures unnamed { DeclaresNoName scope.old scope.new }

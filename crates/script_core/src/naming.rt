@@ -1,7 +1,5 @@
 //! The named terms of a command (SMT-LIB 2.6, section 3.6), as definitions without parameters.
 ghost use Rattle.std.specs.Prelude.{◌≡◌, ◌<◌, ◌++◌, ◌∷◌, [], IfErr, IfOk, IsTrue, OnOk, length, map};
-ghost use Rattle.sort_store.specs.Interned.{Grows, HasNoRepeats, IsInterned};
-ghost use Rattle.sort_store.specs.Tree.{tree};
 ghost use Rattle.term_store.specs.Command.{plain_command, plain_def};
 ghost use Rattle.term_store.specs.Declarations.{names_in, names_in_all, names_in_cases, names_in_each, names_in_note, names_in_notes};
 ghost use Rattle.term_store.specs.NumberedNodes.{cases, numbered_note, numbered_notes, terms};
@@ -17,7 +15,7 @@ use crate::keeping::copy_of_term;
 use crate::scope::{Scope, StepError};
 use lex_core::NameId;
 use scope_stack::{FunEntry, FunKind};
-use sort_store::{DeclNo, SortRef, SortStore, Sorts};
+use sort_store::{DeclNo, Sorts};
 use std::alloc::Global;
 use term_store::{Def, ListOf, Note, Pattern, TermNode, TermRef, TypedCommand};
 
@@ -180,32 +178,6 @@ pub fn named_terms(alloc: Global, command: &TypedCommand) -> Result<Vec<Def>, St
     Ok(named)
 }
 
-// The same sort as this store makes it. The only error is that memory runs out, since a sort that was made has few enough nodes.
-#[tactic(auto, using(crate::proofs::NamedWalks::store_words))]
-fn stored_sort(sorts: &mut SortStore, alloc: Global, sort: &SortRef) -> Result<SortRef, StepError>
-    requires distinct { HasNoRepeats sorts.old }
-    ensures tree { IfOk result (λ r. tree r ≡ tree sort.now) }
-    ensures interned { IfOk result (IsInterned sorts.new) }
-    ensures grows { Grows sorts.old sorts.new }
-    ensures distinct { HasNoRepeats sorts.new }
-    ensures err { IfErr result (λ e. e ≡ StepError.NoMemory) }
-{
-    let mut args = Vec::new(alloc);
-    for k in 0..sort.arg_count() {
-        if let Some(arg) = sort.arg(k) {
-            let arg = stored_sort(sorts, alloc, arg)?;
-            match args.push(arg) {
-                Ok(()) => {}
-                Err(_) => return Err(StepError::NoMemory),
-            }
-        }
-    }
-    match sorts.make(sort.head(), &args) {
-        Ok(sort) => Ok(sort),
-        Err(_) => Err(StepError::NoMemory),
-    }
-}
-
 // Declares a named term. The only error is that memory runs out.
 fn declare_named(scope: &mut Scope, def: &Def) -> Result<(), StepError>
     requires stands { IsReadyScope scope.old }
@@ -222,7 +194,10 @@ fn declare_named(scope: &mut Scope, def: &Def) -> Result<(), StepError>
     let Some(next) = scope.next.checked_add(1) else {
         return Err(StepError::NoMemory);
     };
-    let result = stored_sort(&mut scope.world.sorts, scope.alloc, &def.result)?;
+    let result = match scope.world.sorts.copy(&def.result) {
+        Ok(result) => result,
+        Err(_) => return Err(StepError::NoMemory),
+    };
     let entry = FunEntry {
         no: def.no,
         kind: FunKind::Named,

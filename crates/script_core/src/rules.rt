@@ -7,7 +7,6 @@ ghost use Rattle.script_core.specs.RuleAnswers.{answer_form, answer_fragment, an
 ghost use Rattle.term_store.specs.Command.{plain_command};
 ghost use Rattle.script_core.specs.Checking.{environment_of};
 
-use crate::built::{judge_all_built, judge_built};
 use crate::logic::logic_theories;
 use crate::scope::Scope;
 use cmd_grammar::RawCommandKind;
@@ -54,16 +53,11 @@ pub fn attribute_key(attribute: &RawAttribute) -> Tok
     }
 }
 
-// Whether the command is built, and the productions of its terms.
+// Whether the command is built.
 fn judge_form(at: u32, command: &RawCommandKind) -> Result<(), Place>
     ensures { result ≡ answer_form at (command_from command.now) }
 {
     match command {
-        RawCommandKind::Assert(term) => judge_built(term),
-        RawCommandKind::DefineFun(definition) => judge_built(&definition.body),
-        RawCommandKind::DefineFunRec(definition) => judge_built(&definition.body),
-        RawCommandKind::DefineFunsRec { bodies, .. } => judge_all_built(bodies),
-        RawCommandKind::GetValue(terms) => judge_all_built(terms),
         RawCommandKind::DeclareDatatype { .. } | RawCommandKind::DeclareDatatypes { .. } => {
             rule(false, Code::WrongCommandForm, at)
         }

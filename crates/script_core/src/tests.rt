@@ -2,6 +2,7 @@ ghost use Rattle.std.specs.Prelude.{◌≡◌, false};
 
 mod bits;
 mod definitions;
+mod large;
 mod naming;
 
 use super::*;
@@ -20,14 +21,14 @@ fn answer(
     first: usize,
 ) -> Result<(Result<(), Stop>, u32), Fail> {
     assert!(rt; first <= text.len());
-    assert!(rt; text.len() < 5000);
+    assert!(rt; text.len() < 1_000_000);
     let (front, back) = text.split_at(first);
     let mut session = Session::new(alloc)?;
     assert!(rt; session.taken() == 0);
     if let Err(stop) = session.feed(front) {
         return Ok((Err(stop), session.script().len() as u32));
     }
-    assert!(rt; session.taken() < 5000);
+    assert!(rt; session.taken() < 1_000_000);
     if let Err(stop) = session.feed(back) {
         return Ok((Err(stop), session.script().len() as u32));
     }
@@ -88,8 +89,8 @@ fn refuses_texts_at_their_bytes(rt: HostRuntime) -> Result<(), Fail> {
         (
             b"(set-logic QF_UF)(assert (and true (match true ((y y)))))",
             2,
-            35,
-            Code::WrongTermForm,
+            42,
+            Code::MatchOnNonDatatype,
         ),
         (
             b"(set-logic QF_UF)(assert (let ((x true)) (! x :weight 1 :named n)))",
@@ -153,7 +154,7 @@ fn refuses_texts_at_their_bytes(rt: HostRuntime) -> Result<(), Fail> {
             b"(set-logic QF_UF)(assert ((_ is c) true))",
             2,
             25,
-            Code::UnknownFunction,
+            Code::WrongIndex,
         ),
         (b"(set-logic QF_UF)(assert not)", 2, 25, Code::NoRank),
         (b"(set-logic QF_UF)(assert (and true))", 2, 25, Code::NoRank),
@@ -499,9 +500,9 @@ fn refuses_lists_too_deep(rt: HostRuntime) -> Result<(), Fail> {
 fn bytewise(rt: &impl Abort, mut session: Session, text: &[u8]) -> Result<(), Stop>
     requires { session.finished ≡ false }
 {
-    assert!(rt; text.len() < 5000);
+    assert!(rt; text.len() < 1_000_000);
     for byte in text {
-        assert!(rt; session.taken() < 5000);
+        assert!(rt; session.taken() < 1_000_000);
         session.feed(&[*byte])?;
     }
     session.finish()
@@ -546,14 +547,14 @@ fn answer_of_two(
     first: usize,
 ) -> Result<(Result<(), Stop>, u32), Fail> {
     assert!(rt; first <= text.len());
-    assert!(rt; text.len() < 5000);
+    assert!(rt; text.len() < 1_000_000);
     let (front, back) = text.split_at(first);
     let mut session = Session::new(alloc)?;
     assert!(rt; session.taken() == 0);
     if let Err(stop) = session.feed(front) {
         return Ok((Err(stop), session.script().len() as u32));
     }
-    assert!(rt; session.taken() < 5000);
+    assert!(rt; session.taken() < 1_000_000);
     if let Err(stop) = session.feed(back) {
         return Ok((Err(stop), session.script().len() as u32));
     }

@@ -1,5 +1,5 @@
 -- The typed terms that the rules give apply only functions with numbers below a bound that all live functions are below.
-use Rattle.std.proofs.Common.{◌≡◌, ℕ, ◌<◌, Bool, true, false, List, [], ◌∷◌, ◌++◌, map, Option, Some, None, refl, sym, subst}
+use Rattle.std.proofs.Common.{◌≡◌, ℕ, ◌<◌, Bool, true, false, codes, List, [], ◌∷◌, ◌++◌, map, Option, Some, None, refl, sym, subst}
 use Rattle.std.specs.List.{All}
 use Rattle.std.specs.Option.{option_map}
 use Rattle.judgement.specs.Judging.{Judging, well_sorted}
@@ -8,17 +8,19 @@ use Rattle.sig_table.specs.declared.theories.NameForm.TheVariants as form
 use Rattle.lex_core.specs.declared.token.Tok.{Tok}
 use Rattle.scope_stack.specs.Levels.{found, live}
 use Rattle.term_grammar.specs.Syntax as syntax
-use Rattle.term_grammar.specs.Syntax.{Identifier, symbol, indexed, qualified_at, constant, qualified_term, application, let_in, for_all, there_exists, match_with, annotated, term_at, Terms, no_terms, with_term, Bindings, no_bindings, with_binding, Notes, no_notes, with_note, Note, named_note, pattern_note, attribute_note}
+use Rattle.term_grammar.specs.Syntax.{Identifier, symbol, indexed, qualified_at, constant, qualified_term, application, let_in, for_all, there_exists, match_with, annotated, term_at, Terms, no_terms, with_term, Bindings, no_bindings, with_binding, Cases, no_cases, with_case, Notes, no_notes, with_note, Note, named_note, pattern_note, attribute_note}
 use Rattle.sort_store.specs.Tree.{Sort}
 use Rattle.term_store.specs.declared.parts.Applied.{Applied}
-use Rattle.term_store.specs.SoundTerms.{AppliesBelow, EachAppliesBelow, IsFunBelow, NoteAppliesBelow, NotesApplyBelow}
+use Rattle.term_store.specs.SoundTerms.{AppliesBelow, CasesApplyBelow, EachAppliesBelow, IsFunBelow, NoteAppliesBelow, NotesApplyBelow}
 use Rattle.term_store.specs.Term.{PlainTerm, plain_sort, plain_terms}
 use Rattle.theory_core.specs.TheorySymbols.{form_of}
 use Rattle.typer.specs.BitVectors.{bits_form, index_of}
 use Rattle.typer.specs.Declarations.{Declarations, FunDeclaration}
-use Rattle.typer.specs.FunctionSymbols.{Signature, Function, theory, bits, declared, function_of, indexed_function, if_plain, if_indexed, text_of}
-use Rattle.typer.specs.SortSymbols.{or_else}
-use Rattle.typer.specs.TermRules.{Binding, PlainNote, apply_head, bound, bound_sort, fun_of, identifier_of, judge_application, judge_bindings, judge_function, judge_head, judge_indexed_head, judge_note, judge_notes, judge_quantifier, judge_symbol, judge_term, judge_terms, judge_variables, plain_notes}
+use Rattle.typer.specs.FunctionSymbols.{Signature, Function, theory, bits, declared, function_of, indexed_function, if_plain, if_indexed, tested, text_of}
+use Rattle.typer.specs.MatchRules.{Instance, pattern_variables}
+use Rattle.typer.specs.SortSymbols.{is_text, or_else}
+use Rattle.typer.specs.TermRules.{Binding, Case, PlainNote, apply_head, bound, bound_sort, fun_of, identifier_of, judge_application, judge_bindings, judge_cases, judge_function, judge_head, judge_indexed_by, judge_note, judge_notes, judge_quantifier, judge_symbol, judge_term, judge_terms, judge_variables, plain_cases, plain_notes}
+use Rattle.typer.proofs.Instances.{tested_live}
 use Rattle.typer.proofs.NameSteps.{lookup_all}
 
 -- each live function has a number below the bound
@@ -58,6 +60,10 @@ module _ (n : ℕ) (signature : Signature) (below : AreFunctionsBelow n signatur
       below_or_else _ _ (indexed_below (form_of signature.theories (text_of signature name)) (theory (text_of signature name)) tt)
       (indexed_below (bits_form signature.theories (text_of signature name)) (bits (text_of signature name) (map (index_of signature.texts) is)) tt)
 
+  -- the constructor of a tester is live
+  tested_below : (is : List Tok) (c : ℕ × FunDeclaration) → tested signature is ≡ Some c → c.1.number.0 < n
+  tested_below is c e = let t = tested_live signature is c e in lookup_all (λ (d : ℕ × FunDeclaration). d.1.number.0 < n) c.0 (live signature.declarations.funs) c.1 below t.0
+
   -- a function symbol with arguments that apply only functions below the bound
   module _ (at : ℕ) (args : List PlainTerm) (asked : Option Sort) (name : ℕ) (each : EachAppliesBelow n (plain_terms args)) where
     applied_below : (f : Function) (indices : List ℕ) (head : Applied × Sort) (before after : List ℕ) → IsBelow (Some f)
@@ -67,9 +73,10 @@ module _ (n : ℕ) (signature : Signature) (below : AreFunctionsBelow n signatur
     head_below : (head : Applied × Sort) (before after : List ℕ) → judge_head signature at (map plain_sort args) asked name before (well_sorted head after) → AppliesBelow n (apply_head head args)
     head_below head before after (f, between, (e, same), h) = applied_below f [] head between after (subst IsBelow e (function_below name)) h
 
-    indexed_head_below : (is : List Tok) (head : Applied × Sort) (before after : List ℕ) → judge_indexed_head signature at (map plain_sort args) asked name is before (well_sorted head after)
+    indexed_head_below : (b : Bool) (is : List Tok) (head : Applied × Sort) (before after : List ℕ) → judge_indexed_by b signature at (map plain_sort args) asked name is before (well_sorted head after)
         → AppliesBelow n (apply_head head args)
-    indexed_head_below is head before after (f, between, (e, same), (x, later, takes, h)) = applied_below f _ head later after (subst IsBelow e (indexed_function_below name is)) h
+    indexed_head_below true is head before after (c, between, (e, same), (t, later, rank, (made, g))) = subst (λ (z : Applied × Sort). AppliesBelow n (apply_head z args)) (sym made) (tested_below is c e, each)
+    indexed_head_below false is head before after (f, between, (e, same), (x, later, takes, h)) = applied_below f _ head later after (subst IsBelow e (indexed_function_below name is)) h
 
   module _ (vars : List (ℕ × Sort)) where
     symbol_below : (o : Option Sort) (at : ℕ) (args : List PlainTerm) (asked : Option Sort) (name : ℕ) (u : PlainTerm) (before after : List ℕ) → EachAppliesBelow n (plain_terms args)
@@ -81,7 +88,7 @@ module _ (n : ℕ) (signature : Signature) (below : AreFunctionsBelow n signatur
         → judge_application signature vars at args asked i before (well_sorted u after) → AppliesBelow n u
     application_below (symbol t) at args asked u before after each h = symbol_below (bound vars t.name) at args asked t.name u before after each h
     application_below (indexed _ t is) at args asked u before after each (head, between, h, (made, same)) =
-        subst (AppliesBelow n) (sym made) (indexed_head_below at args asked t.name each is head before between h)
+        subst (AppliesBelow n) (sym made) (indexed_head_below at args asked t.name each (is_text signature.texts (codes "is") t.name) is head before between h)
 
   quantifier_below : (all : Bool) (at : ℕ) (variables : Judging (List (ℕ × Sort))) (body : List (ℕ × Sort) → Judging PlainTerm) (u : PlainTerm) (before after : List ℕ)
       → ((vs : List (ℕ × Sort)) (v : PlainTerm) (first second : List ℕ) → body vs first (well_sorted v second) → AppliesBelow n v)
@@ -103,7 +110,8 @@ module _ (n : ℕ) (signature : Signature) (below : AreFunctionsBelow n signatur
         quantifier_below true (term_at b) (judge_variables signature vs) (λ ws. judge_term signature (vars ++ ws) b) u before after (λ ws. applies_below b (vars ++ ws)) h
     applies_below (there_exists at vs b) vars u before after h =
         quantifier_below false (term_at b) (judge_variables signature vs) (λ ws. judge_term signature (vars ++ ws) b) u before after (λ ws. applies_below b (vars ++ ws)) h
-    applies_below (match_with at b cs) vars u before after h = absurd h
+    applies_below (match_with at b cs) vars u before after (v, b1, h, (i, b2, e, (ds, b3, k, (x, b4, covered, (s, b5, first, (made, same)))))) =
+        subst (AppliesBelow n) (sym made) (applies_below b vars v before b1 h, cases_apply_below cs vars i (plain_sort v) None ds b2 b3 k)
     applies_below (annotated at b ns) vars u before after (v, between, h, (ms, later, k, (made, same))) =
         subst (AppliesBelow n) (sym made) (applies_below b vars v before between h, notes_apply_below ns vars v ms between later k)
 
@@ -111,6 +119,13 @@ module _ (n : ℕ) (signature : Signature) (below : AreFunctionsBelow n signatur
     each_applies_below no_terms vars us before after (made, same) = subst (λ z. EachAppliesBelow n (plain_terms z)) (sym made) tt
     each_applies_below (with_term t ts) vars us before after (u, between, h, (rest, later, k, (made, same))) =
         subst (λ z. EachAppliesBelow n (plain_terms z)) (sym made) (applies_below t vars u before between h, each_applies_below ts vars rest between later k)
+
+    cases_apply_below : (cs : Cases) (vars : List (ℕ × Sort)) (i : Instance) (of : Sort) (first : Option Sort) (ds : List Case) (before after : List ℕ)
+        → judge_cases signature vars i of first cs before (well_sorted ds after) → CasesApplyBelow n (plain_cases ds)
+    cases_apply_below no_cases vars i of first ds before after (made, same) = subst (λ z. CasesApplyBelow n (plain_cases z)) (sym made) tt
+    cases_apply_below (with_case at p t cs) vars i of first ds before after (c, between, (q, b1, typed, (u, b2, h, (x, b3, checked, (f, g)))), (rest, later, k, (made, same))) =
+        subst (λ z. CasesApplyBelow n (plain_cases z)) (sym made)
+        (subst (λ (z : Case). AppliesBelow n z.1) (sym f) (applies_below t (vars ++ pattern_variables i of q) u b1 b2 h), cases_apply_below cs vars i of (or_else first (Some (plain_sort c.1))) rest between later k)
 
     each_bound_below : (bs : Bindings) (vars : List (ℕ × Sort)) (others : List ℕ) (cs : List Binding) (before after : List ℕ) → judge_bindings signature vars others bs before (well_sorted cs after) → EachBound cs
     each_bound_below no_bindings vars others cs before after (made, same) = subst EachBound (sym made) tt

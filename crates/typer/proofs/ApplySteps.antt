@@ -7,7 +7,7 @@ use Rattle.sort_store.specs.declared.error.SortError.{SortError}
 use Rattle.sort_store.specs.declared.head.Head.{Head}
 use Rattle.sort_store.specs.Tree.{Sort, NumberedSort, sort, sorts, node_count}
 use Rattle.sort_store.specs.Instance.{inst}
-use Rattle.typer.specs.declared.error.TyError.TheVariants as error
+use Rattle.dt_rules.specs.declared.error.TyError.TheVariants as error
 use Rattle.typer.specs.Answers.{Answers}
 use Rattle.typer.specs.SortRules.{has_captured, judge_symbol, judge_definition}
 use Rattle.typer.proofs.SortLaws.{at_most}

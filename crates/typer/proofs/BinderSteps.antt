@@ -18,8 +18,8 @@ use Rattle.term_store.specs.declared.term.Note.{Note}
 use Rattle.term_store.specs.declared.term.Note.TheVariants as program_note
 use Rattle.term_store.specs.NumberedNodes as numbered
 use Rattle.term_store.specs.Term.{NumberedTerm, PlainTerm, term, let_in, quant, ann, other, pattern, more_notes, more_terms, note_trees, tree, trees, plain_sort, plain_terms, plain_var}
-use Rattle.typer.specs.declared.error.TyError.{TyError}
-use Rattle.typer.specs.declared.error.TyError.TheVariants as error
+use Rattle.dt_rules.specs.declared.error.TyError.{TyError}
+use Rattle.dt_rules.specs.declared.error.TyError.TheVariants as error
 use Rattle.typer.specs.declared.typed.TypedBinding.{TypedBinding}
 use Rattle.typer.specs.declared.typed.TypedTerm.{TypedTerm}
 use Rattle.typer.specs.declared.world.World.{World}
@@ -98,16 +98,16 @@ module _ (signature : Signature) (vars : List (ℕ × Sort)) where
     abbrev with_value : Unit {0} → Judging Binding
     with_value _ = value >>= (λ u. done (x.name, u))
 
-    begins : Begins (judge_bindings signature vars others left) this (judge_bindings signature vars (others ++ x.name ∷ []) rest)
+    begins : Begins (judge_bindings signature vars others left) this (λ _. judge_bindings signature vars (others ++ x.name ∷ []) rest)
     begins before o h = subst (λ z. judge_bindings signature vars others z before o) (sym shown) (same before o h)
       where
-        same : Begins (judge_bindings signature vars others (with_binding at x raw rest)) this (judge_bindings signature vars (others ++ x.name ∷ []) rest)
+        same : Begins (judge_bindings signature vars others (with_binding at x raw rest)) this (λ _. judge_bindings signature vars (others ++ x.name ∷ []) rest)
         same before (well_sorted cs after) h = h
         same before (ill_sorted place) h = h
 
     fails_here : (e : TyError) (later after : List ℕ) → Meets {A = Binding} (Err e) this so_far later → Meets {A = List Binding} (Err e) (judge_bindings signature vars [] raws) start after
     fails_here e later after h =
-        leads_fault (judge_bindings signature vars [] raws) (judge_bindings signature vars others left) this (judge_bindings signature vars (others ++ x.name ∷ []) rest) (map binding_tree bs) start so_far begins leads e later after h
+        leads_fault (judge_bindings signature vars [] raws) (judge_bindings signature vars others left) this (λ _. judge_bindings signature vars (others ++ x.name ∷ []) rest) (map binding_tree bs) start so_far begins leads e later after h
 
     pub binding_repeated : (after : List ℕ) → list_any (λ n. n == x.name) others ≡ true → Meets {A = List Binding} (Err (fault_at RepeatedVariable x.at)) (judge_bindings signature vars [] raws) start after
     binding_repeated after e = fails_here (fault_at RepeatedVariable x.at) after after (inl ((λ f. cc), refl))
@@ -120,7 +120,7 @@ module _ (signature : Signature) (vars : List (ℕ × Sort)) where
         → new ≡ bs ++ b ∷ [] → Leads (judge_bindings signature vars [] raws) (judge_bindings signature vars (map (λ b. b.name) new) next) (map binding_tree new) start later
     binding_step next new b later e named f h put =
         let same : (x.name, tree b.value.term) ≡ binding_tree b = ap (λ n. (n, tree b.value.term)) (sym named) in
-        let on = leads_on (judge_bindings signature vars [] raws) (judge_bindings signature vars others left) this (judge_bindings signature vars (others ++ x.name ∷ []) rest) (map binding_tree bs) start so_far begins leads (x.name, tree b.value.term) later
+        let on = leads_on (judge_bindings signature vars [] raws) (judge_bindings signature vars others left) this (λ _. judge_bindings signature vars (others ++ x.name ∷ []) rest) (map binding_tree bs) start so_far begins leads (x.name, tree b.value.term) later
         (then_is unrepeated with_value tt (Ok (x.name, tree b.value.term)) so_far so_far later (f, refl)
         (then_is value (λ u. done (x.name, u)) (tree b.value.term) (Ok (x.name, tree b.value.term)) so_far later later h (refl, refl))) in
         subst (λ z. Leads (judge_bindings signature vars [] raws) (judge_bindings signature vars (map (λ b. b.name) new) z) (map binding_tree new) start later) (sym e)

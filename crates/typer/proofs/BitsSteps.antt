@@ -14,8 +14,8 @@ use Rattle.theory_bv.specs.Answers.{Answer, bv_answer}
 use Rattle.theory_bv.specs.Declarations.{Declaration}
 use Rattle.theory_bv.specs.Ranks.{HasBadIndex, HasBvBadIndex, IsBvTooWide, wrong_count}
 use Rattle.theory_bv.specs.Symbols.{IsWrittenWith, declaration_of, form, form_of}
-use Rattle.typer.specs.declared.error.TyError.{TyError}
-use Rattle.typer.specs.declared.error.TyError.TheVariants as error
+use Rattle.dt_rules.specs.declared.error.TyError.{TyError}
+use Rattle.dt_rules.specs.declared.error.TyError.TheVariants as error
 use Rattle.typer.specs.Answers.{Answers, fault_at, tree_answer}
 use Rattle.typer.specs.BitVectors.{HasBitsRank, bits_form, judge_bits, sort_of, width_of}
 use Rattle.typer.specs.FunctionSymbols.{Function, if_indexed, if_plain}

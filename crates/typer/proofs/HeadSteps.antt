@@ -13,8 +13,8 @@ use Rattle.scope_stack.specs.declared.entry.FunEntry.{FunEntry}
 use Rattle.scope_stack.specs.Levels.{found}
 use Rattle.theory_core.specs.TheorySymbols.{form_of}
 use Rattle.term_store.specs.declared.parts.Applied.{Applied}
-use Rattle.typer.specs.declared.error.TyError.{TyError}
-use Rattle.typer.specs.declared.error.TyError.TheVariants as error
+use Rattle.dt_rules.specs.declared.error.TyError.{TyError}
+use Rattle.dt_rules.specs.declared.error.TyError.TheVariants as error
 use Rattle.typer.specs.declared.head.TypedHead.{TypedHead}
 use Rattle.typer.specs.declared.world.World.{World}
 use Rattle.typer.specs.Answers.{Answers, fault_at, head_answer}
@@ -24,7 +24,7 @@ use Rattle.typer.specs.FunctionSymbols.{Signature, Function, theory, bits, decla
 use Rattle.judgement.specs.Judging.{Judging}
 use Rattle.typer.specs.SortRules.{only_numeral}
 use Rattle.typer.specs.SortSymbols.{or_else}
-use Rattle.typer.specs.TermRules.{HasDivisor, TakesIndices, applied, judge_function, judge_head, judge_indexed_function, judge_indexed_head}
+use Rattle.typer.specs.TermRules.{HasDivisor, TakesIndices, applied, judge_function, judge_head, judge_indexed_function, judge_indexed_theory}
 use Rattle.std.specs.List.{All}
 use Rattle.sort_store.specs.Tree.{nodes, trees}
 use Rattle.sort_store.specs.Instance.{EachParamsBelow}
@@ -112,13 +112,13 @@ module _ (world : World) (name : ℕ) where
       abbrev indexed_bits : Option Function
       indexed_bits = if_indexed (bits_form S.theories text) on_bits
 
-      pub indexed_step : (f : Function) (r : Result Head TyError) → indexed_function S name is ≡ Some f → Answers r (judge_indexed_function S f at args asked name is) → Answers r (judge_indexed_head S at args asked name is)
+      pub indexed_step : (f : Function) (r : Result Head TyError) → indexed_function S name is ≡ Some f → Answers r (judge_indexed_function S f at args asked name is) → Answers r (judge_indexed_theory S at args asked name is)
       indexed_step f (Ok t) e h = λ before. (f, before, (e, refl), h before)
       indexed_step f (Err (error.Fault place)) e h = λ before. inr (f, before, (e, refl), h before)
       indexed_step f (Err error.NoMemory) e h = tt
 
-      pub indexed_unknown : (e : TyError) → indexed_theory ≡ None → indexed_bits ≡ None → e ≡ fault_at UnknownFunction at → Answers {A = Head} (Err e) (judge_indexed_head S at args asked name is)
-      indexed_unknown e n m same = subst (λ z. Answers {A = Head} (Err z) (judge_indexed_head S at args asked name is)) (sym same) (λ before. inl (never, refl))
+      pub indexed_unknown : (e : TyError) → indexed_theory ≡ None → indexed_bits ≡ None → e ≡ fault_at UnknownFunction at → Answers {A = Head} (Err e) (judge_indexed_theory S at args asked name is)
+      indexed_unknown e n m same = subst (λ z. Answers {A = Head} (Err z) (judge_indexed_theory S at args asked name is)) (sym same) (λ before. inl (never, refl))
         where
           never : (f : Function) → indexed_function S name is ≡ Some f → ⊥
           never f g = let none : indexed_function S name is ≡ None = ap (λ o. or_else o indexed_bits) n ∙ m in cc

@@ -7,8 +7,8 @@ use Rattle.sig_table.specs.declared.code.Code.TheVariants.{WrongIndex, NumberToo
 use Rattle.sig_table.specs.declared.theories.Theories.{Theories}
 use Rattle.sort_store.specs.declared.head.Head.TheVariants as head
 use Rattle.sort_store.specs.Tree.{Sort, sort, no_sorts}
-use Rattle.typer.specs.declared.error.TyError.{TyError}
-use Rattle.typer.specs.declared.error.TyError.TheVariants as error
+use Rattle.dt_rules.specs.declared.error.TyError.{TyError}
+use Rattle.dt_rules.specs.declared.error.TyError.TheVariants as error
 use Rattle.typer.specs.Answers.{Answers}
 use Rattle.typer.specs.SortSymbols.{is_bit_vector}
 use Rattle.typer.specs.SortRules.{only_numeral, index_value, judge_symbol, judge_indexed}

@@ -2,9 +2,11 @@ pub mod DeclarationsByTrees
 pub mod NumeralDigits
 pub mod SortLaws
 pub mod CapturedSymbols
+pub mod CaseSteps
 pub mod ApplySteps
 pub mod NameSteps
 pub mod IndexedSteps
+pub mod Instances
 pub mod SortSteps
 pub mod ReadyKept
 pub mod SortsReady
@@ -15,7 +17,10 @@ pub mod SameSorts
 pub mod ValueLists
 pub mod RankAnswers
 pub mod ListSteps
+pub mod MatchParts
+pub mod MatchSteps
 pub mod LiveRankSteps
+pub mod TesterSteps
 pub mod TheoryRankSteps
 pub mod IndexLists
 pub mod BitsRanks
@@ -33,6 +38,7 @@ pub mod SymbolSteps
 pub mod RankDecisions
 pub mod TermLaws
 pub mod SoundInstances
+pub mod SoundMatches
 pub mod SoundSorts
 pub mod SoundVariables
 pub mod SoundRanks

@@ -13,9 +13,9 @@ use Rattle.term_store.specs.declared.term.TermNode.TheVariants as node
 use Rattle.term_store.specs.NumberedNodes.{term_of}
 use Rattle.term_store.specs.Term as terms
 use Rattle.term_store.specs.Term.{PlainTerm, lit, term}
-use Rattle.typer.specs.declared.error.TyError.TheVariants as error
+use Rattle.dt_rules.specs.declared.error.TyError.TheVariants as error
 use Rattle.typer.specs.declared.typed.TypedTerm.{TypedTerm}
-use Rattle.typer.specs.declared.error.TyError.{TyError}
+use Rattle.dt_rules.specs.declared.error.TyError.{TyError}
 use Rattle.typer.specs.Answers.{Answers, fault_at, typed_answer}
 use Rattle.typer.specs.BitVectors.{bit_vector}
 use Rattle.typer.specs.FunctionSymbols.{Signature, text_of}

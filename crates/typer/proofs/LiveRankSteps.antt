@@ -11,8 +11,8 @@ use Rattle.sort_store.proofs.MatchingLists.{fits_each_from_fitted}
 use Rattle.std.specs.Result.{IfErr, IfOk}
 use Rattle.sort_store.specs.Interned.{IsInterned, AllInterned}
 use Rattle.typer.specs.Answers.{Answers, fault_at, tree_answer}
-use Rattle.typer.specs.declared.error.TyError.{TyError}
-use Rattle.typer.specs.declared.error.TyError.TheVariants as error
+use Rattle.dt_rules.specs.declared.error.TyError.{TyError}
+use Rattle.dt_rules.specs.declared.error.TyError.TheVariants as error
 use Rattle.typer.specs.LiveRanks.{judge_live}
 use Rattle.typer.proofs.Occurrences.{given}
 use Rattle.typer.proofs.RankAnswers.{no_rank, not_given, too_large, has_rank, other_rank, has_asked_rank, of_copy}

@@ -3,14 +3,16 @@ use Rattle.std.proofs.Common.{◌≡◌, ℕ, Bool, true, false, List, [], ◌�
 use Rattle.judgement.specs.Judging.{Judging, well_sorted}
 use Rattle.lex_core.specs.declared.token.Tok.{Tok}
 use Rattle.term_grammar.specs.Syntax as syntax
-use Rattle.term_grammar.specs.Syntax.{Identifier, symbol, indexed, qualified_at, constant, qualified_term, application, let_in, for_all, there_exists, match_with, annotated, term_at, Terms, no_terms, with_term, Bindings, no_bindings, with_binding, Notes, no_notes, with_note, Note, named_note, pattern_note, attribute_note}
+use Rattle.term_grammar.specs.Syntax.{Identifier, symbol, indexed, qualified_at, constant, qualified_term, application, let_in, for_all, there_exists, match_with, annotated, term_at, Terms, no_terms, with_term, Bindings, no_bindings, with_binding, Cases, no_cases, with_case, Notes, no_notes, with_note, Note, named_note, pattern_note, attribute_note}
 use Rattle.sort_store.specs.Tree.{Sort}
-use Rattle.term_store.specs.Term.{PlainTerm, plain_terms}
-use Rattle.term_store.specs.Declarations.{Declaration, names_in, names_in_each, names_in_note, names_in_notes}
+use Rattle.term_store.specs.Term.{PlainTerm, plain_sort, plain_terms}
+use Rattle.term_store.specs.Declarations.{Declaration, names_in, names_in_cases, names_in_each, names_in_note, names_in_notes}
 use Rattle.typer.specs.FunctionSymbols.{Signature}
 use Rattle.typer.specs.NamedTerms.{AreNamedAfter, name_given}
-use Rattle.typer.specs.TermRules.{Binding, PlainNote, bound, bound_sort, identifier_of, judge_symbol, judge_application, judge_bindings, judge_name, judge_note, judge_notes, judge_quantifier, judge_term, judge_terms, judge_variables, number_after, plain_notes}
-use Rattle.typer.proofs.TermLaws.{none-application, none-asked, none-variables}
+use Rattle.typer.specs.MatchRules.{Instance, pattern_variables}
+use Rattle.typer.specs.SortSymbols.{or_else}
+use Rattle.typer.specs.TermRules.{Binding, Case, PlainNote, bound, bound_sort, identifier_of, judge_symbol, judge_application, judge_bindings, judge_cases, judge_name, judge_note, judge_notes, judge_quantifier, judge_term, judge_terms, judge_variables, number_after, plain_cases, plain_notes}
+use Rattle.typer.proofs.TermLaws.{none-application, none-asked, none-typed_pattern, none-variables}
 
 module _ (signature : Signature) where
   abbrev From : List ℕ → List Declaration → List ℕ → Type 0
@@ -50,6 +52,9 @@ module _ (signature : Signature) where
   abbrev GivenByNotes : PlainTerm → List ℕ → List PlainNote → List ℕ → Type 0
   GivenByNotes u before ns after = From before (names_in_notes u (plain_notes ns)) after
 
+  abbrev GivenByCases : List ℕ → List Case → List ℕ → Type 0
+  GivenByCases before cs after = From before (names_in_cases (plain_cases cs)) after
+
   quantifier_given : (all : Bool) (at : ℕ) (raws : List syntax.SortedSymbol) (body : List (ℕ × Sort) → Judging PlainTerm) (u : PlainTerm) (before after : List ℕ)
       → ((vs : List (ℕ × Sort)) (v : PlainTerm) (first second : List ℕ) → body vs first (well_sorted v second) → From first (names_in v) second)
       → judge_quantifier all at (judge_variables signature raws) body before (well_sorted u after) → From before (names_in u) after
@@ -76,7 +81,10 @@ module _ (signature : Signature) where
         (ends (names_in v) between later after same (names_given b (vars ++ map bound_sort cs) v between later k)))
     names_given (for_all at vs b) vars u before after h = quantifier_given true (term_at b) vs (λ ws. judge_term signature (vars ++ ws) b) u before after (λ ws. names_given b (vars ++ ws)) h
     names_given (there_exists at vs b) vars u before after h = quantifier_given false (term_at b) vs (λ ws. judge_term signature (vars ++ ws) b) u before after (λ ws. names_given b (vars ++ ws)) h
-    names_given (match_with at b cs) vars u before after h = absurd h
+    names_given (match_with at b cs) vars u before after (v, b1, h, (i, b2, e, (ds, b3, k, (x, b4, covered, (s, b5, first, (made, same)))))) =
+        subst (λ z. From before (names_in z) after) (sym made)
+        (named_append (names_in v) (names_in_cases (plain_cases ds)) before b1 after (names_given b vars v before b1 h)
+        (ends (names_in_cases (plain_cases ds)) b1 b3 after (same ∙ first.1 ∙ covered.1) (begins (names_in_cases (plain_cases ds)) b1 b2 b3 e.1 (given_by_cases cs vars i (plain_sort v) None ds b2 b3 k))))
     names_given (annotated at b ns) vars u before after (v, between, h, (ms, later, k, (made, same))) =
         subst (λ z. From before (names_in z) after) (sym made)
         (named_append (names_in v) (names_in_notes v (plain_notes ms)) before between after (names_given b vars v before between h)
@@ -96,6 +104,16 @@ module _ (signature : Signature) where
         (named_append (names_in c.1) (names_in_each (plain_terms (map (λ (b : Binding). b.1) rest))) before between after
         (subst (λ (z : Binding). From before (names_in z.1) between) (sym e) (ends (names_in v) before next between f (begins (names_in v) before start next apart.1 (names_given t vars v start next h))))
         (ends (names_in_each (plain_terms (map (λ (b : Binding). b.1) rest))) between later after same (given_bound bs vars (others ++ x.name ∷ []) rest between later k)))
+
+    given_by_cases : (cs : Cases) (vars : List (ℕ × Sort)) (i : Instance) (of : Sort) (first : Option Sort) (ds : List Case) (before after : List ℕ)
+        → judge_cases signature vars i of first cs before (well_sorted ds after) → GivenByCases before ds after
+    given_by_cases no_cases vars i of first ds before after (made, same) = subst (λ z. GivenByCases before z after) (sym made) same
+    given_by_cases (with_case at p t cs) vars i of first ds before after (c, between, (q, b1, typed, (u, b2, h, (x, b3, checked, (f, g)))), (rest, later, k, (made, same))) =
+        subst (λ z. GivenByCases before z after) (sym made)
+        (named_append (names_in c.1) (names_in_cases (plain_cases rest)) before between after
+        (subst (λ (z : Case). From before (names_in z.1) between) (sym f)
+        (ends (names_in u) before b2 between (g ∙ checked.1) (begins (names_in u) before b1 b2 (none-typed_pattern i p before (well_sorted q b1) typed).0 (names_given t (vars ++ pattern_variables i of q) u b1 b2 h))))
+        (ends (names_in_cases (plain_cases rest)) between later after same (given_by_cases cs vars i of (or_else first (Some (plain_sort c.1))) rest between later k)))
 
     given_by_notes : (ns : Notes) (vars : List (ℕ × Sort)) (u : PlainTerm) (ms : List PlainNote) (before after : List ℕ) → judge_notes signature vars u ns before (well_sorted ms after) → GivenByNotes u before ms after
     given_by_notes no_notes vars u ms before after (made, same) = subst (λ z. GivenByNotes u before z after) (sym made) same

@@ -5,8 +5,8 @@ use Rattle.std.specs.Result.{IfErr, IfOk}
 use Rattle.judgement.specs.Judging.{Judging}
 use Rattle.sig_table.specs.declared.code.Code.TheVariants.{NoRank, AmbiguousConstructor, WrongQualifiedSort, SortTooLarge}
 use Rattle.sort_store.specs.Tree.{Sort, NumberedSort, node_count, tree}
-use Rattle.typer.specs.declared.error.TyError.{TyError}
-use Rattle.typer.specs.declared.error.TyError.TheVariants as error
+use Rattle.dt_rules.specs.declared.error.TyError.{TyError}
+use Rattle.dt_rules.specs.declared.error.TyError.TheVariants as error
 use Rattle.typer.specs.Answers.{Answers, fault_at, tree_answer}
 use Rattle.typer.specs.RankRules.{judge_rank}
 

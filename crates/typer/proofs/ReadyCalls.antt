@@ -14,7 +14,9 @@ use Rattle.scope_stack.specs.Levels.{live}
 use Rattle.scope_stack.specs.Environment.{Environment, empty, with_fun, with_sort, with_global, with_pushed, with_popped, without_assertions}
 use Rattle.typer.specs.declared.world.World.{World}
 use Rattle.typer.specs.SortSymbols.{is_theory_text, is_theory_sort}
-use Rattle.typer.specs.Ready.{IsReadyHead, IsReadyTree, AreReadyTrees, IsReadySchema, IsReadySortEntry, IsReadyFunEntry, IsReadySort, IsReady, may_have_params}
+use Rattle.typer.specs.Ready.{IsReadyHead, IsReadyTree, AreReadyTrees, IsReadySchema, IsReadySortEntry, IsReadyFunEntry, IsReadySort, IsReadyDatatype, IsReady, may_have_params}
+use Rattle.term_store.specs.Script.{empty_script}
+use Rattle.typer.specs.FunctionSymbols.{datatypes_of}
 use Rattle.typer.proofs.HeadSteps.{schemas_below, schemas_interned}
 use Rattle.typer.proofs.NameSteps.{params_below}
 use Rattle.typer.proofs.LiveDeclarations.{Each, each_of_all, all_of_each, each_declared, each_opened, each_closed, each_global}
@@ -36,7 +38,7 @@ module _ (world : World) (ready : IsReady world) where
   funs_each = each_of_all OfFun (live world.scopes.funs) ready.funs
 
   ready_with : (scopes : Environment) → Each OfSort (live scopes.sorts) → Each OfFun (live scopes.funs) → IsReady (with_scopes scopes world)
-  ready_with scopes h k = record { distinct = ready.distinct; sorts = all_of_each OfSort (live scopes.sorts) h; funs = all_of_each OfFun (live scopes.funs) k; numbered = ready.numbered }
+  ready_with scopes h k = record { distinct = ready.distinct; sorts = all_of_each OfSort (live scopes.sorts) h; funs = all_of_each OfFun (live scopes.funs) k; datatypes = ready.datatypes; numbered = ready.numbered }
 
   pub ready_with_sort : (name : ℕ) (d : SortEntry) → IsReadySort world.names world.theories world.sorts (name, d) → IsReady (with_scopes (with_sort name d world.scopes) world)
   ready_with_sort name d h = ready_with (with_sort name d world.scopes) (each_declared OfSort world.scopes.global (name, d) world.scopes.sorts h sorts_each) funs_each
@@ -57,13 +59,18 @@ module _ (world : World) (ready : IsReady world) where
   ready_without_assertions = ready_with (without_assertions world.scopes) (each_global OfSort world.scopes.sorts sorts_each) (each_global OfFun world.scopes.funs funs_each)
 
 -- where nothing is declared, the theories may be any
-pub ready_empty : (world : World) → world.scopes ≡ empty → HasNoRepeats world.sorts → length world.seen.items ≤ world.next.0 → IsReady world
-ready_empty world e distinct numbered = record {
+pub ready_empty : (world : World) → world.scopes ≡ empty → HasNoRepeats world.sorts → All IsReadyDatatype (datatypes_of world.script) → length world.seen.items ≤ world.next.0 → IsReady world
+ready_empty world e distinct datatypes numbered = record {
   distinct = distinct;
   sorts = subst (λ s. All (IsReadySort world.names world.theories world.sorts) (live s.sorts)) (sym e) (all_of_each _ [] tt);
   funs = subst (λ s. All (λ (d : ℕ × FunEntry). IsReadyFunEntry world.sorts d.1) (live s.funs)) (sym e) (all_of_each _ [] tt);
+  datatypes = datatypes;
   numbered = numbered;
 }
+
+-- no datatype is kept
+pub none_kept : (world : World) → world.script ≡ empty_script → All IsReadyDatatype (datatypes_of world.script)
+none_kept world e = subst (λ z. All IsReadyDatatype (datatypes_of z)) (sym e) (λ k d l. absurd (omega (arith, l)))
 
 -- no name is declared
 pub none_numbered : (world : World) → world.seen.items ≡ [] → length world.seen.items ≤ world.next.0
@@ -127,6 +134,7 @@ ready_with_names world texts (more, e) ready = subst (λ t. IsReady (with_names 
   sorts = λ k d l. (let h = ready.sorts k d l in
       record { name = longer world.names more _ h.name; no_theory_sort = theory_sort_kept world.names more world.theories _ h.name h.no_theory_sort; entry = entry_kept world.names more world.sorts _ h.entry });
   funs = ready.funs;
+  datatypes = ready.datatypes;
   numbered = ready.numbered;
 })
 
@@ -142,4 +150,4 @@ ready_stays world scopes e ready = subst (λ s. IsReady (with_scopes s world)) (
 pub no_repeats_of_none : HasNoRepeats []
 no_repeats_of_none = record { distinct = λ i j t e f. cc }
 
-pub ruleset ready_calls = (ready_declared, ready_stays, ready_with_names, ready_empty, none_numbered, no_repeats_of_none)
+pub ruleset ready_calls = (ready_declared, ready_stays, ready_with_names, ready_empty, none_kept, none_numbered, no_repeats_of_none)

@@ -30,6 +30,7 @@ grown world store g distinct ready = record {
   distinct = distinct;
   sorts = λ k d l. (let h = ready.sorts k d l in record { name = h.name; no_theory_sort = h.no_theory_sort; entry = entry_grown world.names world.sorts store g _ h.entry });
   funs = λ k d l. fun_grown world.names world.sorts store g _ (ready.funs k d l);
+  datatypes = ready.datatypes;
   numbered = ready.numbered;
 }
 

@@ -8,8 +8,8 @@ use Rattle.term_grammar.specs.Syntax.{Identifier, named_sort, applied_sort, Sort
 use Rattle.term_grammar.specs.declared.sort.RawSortKind.TheVariants as kind
 use Rattle.term_grammar.specs.SortViews.{sort_kind, SplitsSorts}
 use Rattle.sort_store.specs.Tree.{Sort, NumberedSort, tree}
-use Rattle.typer.specs.declared.error.TyError.{TyError}
-use Rattle.typer.specs.declared.error.TyError.TheVariants as error
+use Rattle.dt_rules.specs.declared.error.TyError.{TyError}
+use Rattle.dt_rules.specs.declared.error.TyError.TheVariants as error
 use Rattle.typer.specs.declared.world.World.{World}
 use Rattle.typer.specs.Declarations.{declarations_of}
 use Rattle.typer.specs.Answers.{Answers, tree_answer}

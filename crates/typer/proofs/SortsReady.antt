@@ -18,7 +18,7 @@ use Rattle.std.specs.Global.{Global}
 use Rattle.std.specs.List.{All}
 use Rattle.std.specs.Result.{IfOk}
 use Rattle.sort_store.specs.Interned.{IsInterned, AllInterned}
-use Rattle.typer.specs.declared.error.TyError.{TyError}
+use Rattle.dt_rules.specs.declared.error.TyError.{TyError}
 use Rattle.typer.specs.declared.world.World.{World}
 use Rattle.typer.specs.Answers.{Answers, tree_answer, trees_answer}
 use Rattle.typer.specs.Declarations.{sort_declaration, declarations_of}

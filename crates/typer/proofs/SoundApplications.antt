@@ -1,5 +1,5 @@
 -- An application that the rules give is sound, of a function symbol of a sound signature to sound terms.
-use Rattle.std.proofs.Common.{◌≡◌, ℕ, false, List, [], ◌∷◌, map, Option, Some, None, ◌⊎◌, inl, inr, refl, ap, sym, subst}
+use Rattle.std.proofs.Common.{◌≡◌, ℕ, Bool, true, false, List, [], ◌∷◌, map, Option, Some, None, ◌⊎◌, inl, inr, refl, ap, sym, subst}
 use Rattle.std.specs.Option.{IfSome, option_map}
 use Rattle.sig_table.specs.declared.theories.NameForm.{NameForm}
 use Rattle.sig_table.specs.declared.theories.NameForm.TheVariants as form
@@ -14,14 +14,17 @@ use Rattle.term_store.specs.SoundTerms.{Bound, IsSoundSort, IsSoundTerm, AreSoun
 use Rattle.theory_core.specs.TheorySymbols.{form_of}
 use Rattle.typer.specs.BitVectors.{bits_form, index_of}
 use Rattle.typer.specs.Declarations.{FunDeclaration}
-use Rattle.typer.specs.FunctionSymbols.{Signature, Function, theory, bits, declared, function_of, indexed_function, if_plain, if_indexed, text_of, HasRank, is_ambiguous}
+use Rattle.typer.specs.FunctionSymbols.{Signature, Function, theory, bits, declared, function_of, indexed_function, if_plain, if_indexed, tester_of, text_of, HasRank, is_ambiguous}
+use Rattle.typer.specs.LiveRanks.{HasInstance}
 use Rattle.typer.specs.SortSymbols.{or_else}
-use Rattle.typer.specs.TermRules.{fun_of, judge_function, judge_head, judge_indexed_head, apply_head}
+use Rattle.term_store.specs.declared.parts.Fun.TheVariants as fun
+use Rattle.typer.specs.TermRules.{fun_of, judge_function, judge_head, judge_indexed_by, apply_head}
+use Rattle.typer.proofs.Instances.{tested_live}
 use Rattle.typer.specs.Soundness.{IsSoundFunction, IsSoundSignature}
 use Rattle.typer.proofs.NameSteps.{lookup_all}
 use Rattle.typer.proofs.SoundBits.{bits_applies, bits_result_sound}
 use Rattle.typer.proofs.SoundInstances.{AreSound}
-use Rattle.typer.proofs.SoundRanks.{result_ranked, live_result_sound, live_applies}
+use Rattle.typer.proofs.SoundRanks.{ranked, result_ranked, live_result_sound, live_applies, tester_applies}
 use Rattle.typer.proofs.SoundTheories.{theory_result_sound, theory_applies}
 
 sorts_of : (us : List PlainTerm) → plain_sorts (plain_terms us) ≡ map plain_sort us
@@ -98,6 +101,12 @@ module _ (script : List Declaration) (signature : Signature) (sound : IsSoundSig
     pub head_sound : (head : Applied × Sort) (before after : List ℕ) → judge_head signature at (map plain_sort args) asked name before (well_sorted head after) → IsSoundTerm script outer (apply_head head args)
     head_sound head before after (f, between, (e, same), h) = function_sound f [] head between after (subst (NamesOption name) e (function_named name)) h
 
-    pub indexed_head_sound : (is : List Tok) (head : Applied × Sort) (before after : List ℕ) → judge_indexed_head signature at (map plain_sort args) asked name is before (well_sorted head after)
+    pub indexed_head_sound : (b : Bool) (is : List Tok) (head : Applied × Sort) (before after : List ℕ) → judge_indexed_by b signature at (map plain_sort args) asked name is before (well_sorted head after)
         → IsSoundTerm script outer (apply_head head args)
-    indexed_head_sound is head before after (f, between, (e, same), (x, later, takes, h)) = function_sound f (map (λ i. i.name) is) head later after (subst (NamesOption name) e (indexed_function_named name is)) h
+    indexed_head_sound true is head before after (c, between, (e, same), (t, later, rank, (made, g))) =
+        let l = tested_live signature is c e in
+        let f = lookup_all (λ (d : ℕ × FunDeclaration). IsSoundFunction script d.1) c.0 (live signature.declarations.funs) c.1 sound.funs l.0 in
+        let h = (ranked (HasInstance (tester_of c.1) (map plain_sort args)) (is_ambiguous (declared (tester_of c.1))) at asked t between later rank).0 in
+        subst (λ (z : Applied × Sort). IsSoundTerm script outer (apply_head z args)) (sym made)
+        (subst (IsSoundSort script 0) h.gives (tt, tt), (a, subst (λ ss. IsSoundApplication script (fun.Tester c.1.number) c.0 ss t) (sym (sorts_of args)) (tester_applies script c.1 (map plain_sort args) t f l.1 h)))
+    indexed_head_sound false is head before after (f, between, (e, same), (x, later, takes, h)) = function_sound f (map (λ i. i.name) is) head later after (subst (NamesOption name) e (indexed_function_named name is)) h

@@ -1,19 +1,23 @@
 -- A named term is sound whatever variables are bound round it, since no variable stands free in it.
-use Rattle.std.proofs.Common.{ℕ, Bool, true, false, List, [], ◌∷◌, ◌++◌, map, sym, subst}
+use Rattle.std.proofs.Common.{ℕ, Bool, true, false, List, [], ◌∷◌, ◌++◌, map, Option, Some, None, sym, subst}
 use Rattle.judgement.specs.Judging.{Judging, well_sorted}
 use Rattle.lex_core.specs.declared.token.Tok.{Tok}
 use Rattle.term_grammar.specs.Syntax as syntax
-use Rattle.term_grammar.specs.Syntax.{qualified_at, constant, qualified_term, application, let_in, for_all, there_exists, match_with, annotated, term_at, Terms, no_terms, with_term, Bindings, no_bindings, with_binding, Notes, no_notes, with_note, Note, named_note, pattern_note, attribute_note}
+use Rattle.term_grammar.specs.Syntax.{qualified_at, constant, qualified_term, application, let_in, for_all, there_exists, match_with, annotated, term_at, Terms, no_terms, with_term, Bindings, no_bindings, with_binding, Cases, no_cases, with_case, Notes, no_notes, with_note, Note, named_note, pattern_note, attribute_note}
 use Rattle.sort_store.specs.Tree.{Sort}
-use Rattle.term_store.specs.Term.{PlainTerm, plain_terms}
-use Rattle.term_store.specs.Declarations.{Declaration, names_in, names_in_each, names_in_note, names_in_notes}
+use Rattle.term_store.specs.Term.{PlainTerm, plain_sort, plain_terms}
+use Rattle.term_store.specs.Declarations.{Declaration, names_in, names_in_cases, names_in_each, names_in_note, names_in_notes}
 use Rattle.term_store.specs.SoundTerms.{AreSoundVars, Bound, IsSoundTerm, bound_also}
 use Rattle.typer.specs.FunctionSymbols.{Signature}
 use Rattle.typer.specs.Soundness.{IsSoundSignature}
-use Rattle.typer.specs.TermRules.{Binding, PlainNote, bound_sort, identifier_of, judge_bindings, judge_name, judge_note, judge_notes, judge_quantifier, judge_term, judge_terms, judge_variables, number_after, plain_notes}
+use Rattle.typer.specs.MatchRules.{Instance, pattern_variables}
+use Rattle.typer.specs.SortSymbols.{or_else}
+use Rattle.typer.specs.TermRules.{Binding, Case, PlainNote, bound_sort, identifier_of, judge_bindings, judge_cases, judge_name, judge_note, judge_notes, judge_quantifier, judge_term, judge_terms, judge_variables, number_after, plain_cases, plain_notes}
 use Rattle.typer.proofs.ClosedTerms.{closed_sound}
 use Rattle.typer.proofs.EachNamed.{EachNamed, append_named, none_named, one_named}
 use Rattle.typer.proofs.NamesGiven.{application_names}
+use Rattle.typer.proofs.SoundApplications.{sort_sound}
+use Rattle.typer.proofs.SoundMatches.{IsSoundMatch, sound_match, typed_pattern_fits}
 use Rattle.typer.proofs.SoundBinders.{bindings_sound, variables_sound, vars_append}
 use Rattle.typer.proofs.SoundTerms.{sound_bindings, sound_term}
 
@@ -59,7 +63,11 @@ module _ (script : List Declaration) where
           quantifier_sound_names true (term_at b) vs vars (λ ws. judge_term signature (vars ++ ws) b) u before after given (λ ws v first second own k. named_sound b (vars ++ ws) own v first second k) h
       named_sound (there_exists at vs b) vars given u before after h =
           quantifier_sound_names false (term_at b) vs vars (λ ws. judge_term signature (vars ++ ws) b) u before after given (λ ws v first second own k. named_sound b (vars ++ ws) own v first second k) h
-      named_sound (match_with at b cs) vars given u before after h = absurd h
+      named_sound (match_with at b cs) vars given u before after (v, b1, h, (i, b2, e, (ds, b3, k, (x, b4, covered, (s, b5, first, (made, same)))))) =
+          let of = sound_term script signature sound b vars given v before b1 h in
+          let m = sound_match script signature.datatypes sound.datatypes (plain_sort v) (sort_sound script (bound_also vars []) v of) i e.0 in
+          subst (λ z. AreSoundNames (names_in z)) (sym made)
+          (sound_names_append (names_in v) (names_in_cases (plain_cases ds)) (named_sound b vars given v before b1 h) (cases_named_sound cs vars given i (plain_sort v) m None ds b2 b3 k))
       named_sound (annotated at b ns) vars given u before after (v, between, h, (ms, later, k, (made, same))) =
           subst (λ z. AreSoundNames (names_in z)) (sym made)
           (sound_names_append (names_in v) (names_in_notes v (plain_notes ms)) (named_sound b vars given v before between h)
@@ -78,6 +86,16 @@ module _ (script : List Declaration) where
           subst (λ (z : List Binding). AreSoundNames (names_in_each (plain_terms (map (λ (b : Binding). b.1) z)))) (sym made)
           (sound_names_append (names_in c.1) (names_in_each (plain_terms (map (λ (b : Binding). b.1) rest)))
           (subst (λ (z : Binding). AreSoundNames (names_in z.1)) (sym e) (named_sound t vars given v start next h)) (bound_named_sound bs vars given (others ++ x.name ∷ []) rest between later k))
+
+      cases_named_sound : (cs : Cases) (vars : List (ℕ × Sort)) → AreSoundVars script vars → (i : Instance) (of : Sort) → IsSoundMatch script signature.datatypes of i → (first : Option Sort) (ds : List Case) (before after : List ℕ)
+          → judge_cases signature vars i of first cs before (well_sorted ds after) → AreSoundNames (names_in_cases (plain_cases ds))
+      cases_named_sound no_cases vars given i of m first ds before after (made, same) = subst (λ z. AreSoundNames (names_in_cases (plain_cases z))) (sym made) no_sound_names
+      cases_named_sound (with_case at p t cs) vars given i of m first ds before after (c, between, (q, b1, typed, (u, b2, h, (x, b3, checked, (f, g)))), (rest, later, k, (made, same))) =
+          let own = typed_pattern_fits script i of signature.datatypes m (bound_also vars []) p q before b1 typed in
+          subst (λ z. AreSoundNames (names_in_cases (plain_cases z))) (sym made)
+          (sound_names_append (names_in c.1) (names_in_cases (plain_cases rest))
+          (subst (λ (z : Case). AreSoundNames (names_in z.1)) (sym f) (named_sound t (vars ++ pattern_variables i of q) (vars_append script vars (pattern_variables i of q) given own.0) u b1 b2 h))
+          (cases_named_sound cs vars given i of m (or_else first (Some (plain_sort c.1))) rest between later k))
 
       notes_named_sound : (ns : Notes) (vars : List (ℕ × Sort)) → AreSoundVars script vars → (u : PlainTerm) → IsSoundTerm script (bound_also vars []) u → (ms : List PlainNote) (before after : List ℕ)
           → judge_notes signature vars u ns before (well_sorted ms after) → AreSoundNames (names_in_notes u (plain_notes ms))

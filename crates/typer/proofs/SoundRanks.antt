@@ -5,13 +5,15 @@ use Rattle.sig_table.specs.declared.theories.Theories.{Theories}
 use Rattle.judgement.specs.Judging.{well_sorted}
 use Rattle.sort_store.specs.declared.head.Head.{Head}
 use Rattle.sort_store.specs.Tree.{Sort, sort, SortList, no_sorts, more_sorts, sorts}
+use Rattle.sort_store.specs.CoreRanks.{bool}
+use Rattle.scope_stack.specs.declared.entry.FunKind.TheVariants as kind
 use Rattle.sort_store.specs.Instance.{param_of, value_or, inst, insts}
 use Rattle.sort_store.specs.Binding.{ParamAt, ParamIn, ParamInEach}
 use Rattle.term_store.specs.Declarations.{Declaration}
-use Rattle.term_store.specs.SoundTerms.{IsSoundSort, AreSoundSorts, AppliesDeclared, HasRankAt}
+use Rattle.term_store.specs.SoundTerms.{IsSoundSort, AreSoundSorts, AppliesDeclared, AppliesTester, HasRankAt, HasTesterRankAt}
 use Rattle.typer.specs.Declarations.{FunDeclaration}
 use Rattle.typer.specs.BitVectors.{HasBitsRank}
-use Rattle.typer.specs.FunctionSymbols.{Function, theory, bits, declared, HasRank, is_ambiguous as is_ambiguous_function, judge_result}
+use Rattle.typer.specs.FunctionSymbols.{Function, theory, bits, declared, HasRank, is_ambiguous as is_ambiguous_function, judge_result, tester_of}
 use Rattle.typer.specs.LiveRanks.{HasInstance, is_ambiguous}
 use Rattle.typer.specs.RankRules.{judge_rank}
 use Rattle.typer.specs.Soundness.{IsSoundFunction}
@@ -70,4 +72,13 @@ live_applies script f args t sound h = record {
   number_is = sound.number_is;
   values = h.values;
   rank = subst (λ s. HasRankAt sound.its h.values args s) h.gives (subst (λ ss. HasRankAt sound.its h.values ss (inst h.values f.result)) h.takes (sound.ranks h.values h.count));
+}
+
+pub tester_applies : (script : List Declaration) (f : FunDeclaration) (args : List Sort) (t : Sort) → IsSoundFunction script f → f.kind ≡ kind.Constructor → HasInstance (tester_of f) args t → AppliesTester script f.number args t
+tester_applies script f args t sound constructs h = record {
+  its = sound.its;
+  is_declared = sound.is_declared;
+  number_is = sound.number_is;
+  values = h.values;
+  rank = subst (λ s. HasTesterRankAt sound.its h.values args s) h.gives (subst (λ ss. HasTesterRankAt sound.its h.values ss bool) h.takes (sound.tester constructs h.values h.count));
 }

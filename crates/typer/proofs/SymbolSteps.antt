@@ -15,8 +15,8 @@ use Rattle.sort_store.specs.Interned.{IsInterned}
 use Rattle.term_store.specs.NumberedNodes as numbered
 use Rattle.term_store.specs.declared.parts.Applied.{Applied}
 use Rattle.term_store.specs.Term.{NumberedTerm, PlainTerm, term, var, app, more_terms, tree, trees, plain_sort, plain_terms, plain_var}
-use Rattle.typer.specs.declared.error.TyError.{TyError}
-use Rattle.typer.specs.declared.error.TyError.TheVariants as error
+use Rattle.dt_rules.specs.declared.error.TyError.{TyError}
+use Rattle.dt_rules.specs.declared.error.TyError.TheVariants as error
 use Rattle.typer.specs.declared.head.TypedHead.{TypedHead}
 use Rattle.typer.specs.declared.typed.TypedTerm.{TypedTerm}
 use Rattle.typer.specs.declared.typed.TypedTerms.{TypedTerms}

@@ -1,7 +1,7 @@
 -- What holds of a production holds of the term that the view shows as one.
 use Rattle.std.proofs.Common.{◌≡◌, ℕ, List, ap, sym, ◌∙◌, subst}
 use Rattle.lex_core.specs.declared.token.Tok.{Tok}
-use Rattle.term_grammar.specs.Syntax.{Qualified, SortedSymbol, Term, constant, qualified_term, application, let_in, for_all, there_exists, match_with, annotated, term_at, Terms, Bindings, Notes}
+use Rattle.term_grammar.specs.Syntax.{Qualified, SortedSymbol, Term, constant, qualified_term, application, let_in, for_all, there_exists, match_with, annotated, term_at, Terms, Bindings, Cases, Notes}
 use Rattle.term_grammar.specs.declared.term.RawTermKind.TheVariants as kind
 use Rattle.term_grammar.specs.TermViews.{term_kind}
 
@@ -34,6 +34,16 @@ exists_shown (let_in at bs v) vs u e = cc
 exists_shown (for_all at ws v) vs u e = cc
 exists_shown (match_with at v cs) vs u e = cc
 exists_shown (annotated at v ns) vs u e = cc
+
+match_shown : (raw : Term) (u : Term) (cs : Cases) → kind.Match u cs ≡ term_kind raw → raw ≡ match_with (term_at raw) u cs
+match_shown (match_with at v ds) u cs e = let p : v ≡ u = cc in let q : ds ≡ cs = cc in ap (λ z. match_with at z ds) p ∙ ap (match_with at u) q
+match_shown (constant t) u cs e = cc
+match_shown (qualified_term q) u cs e = cc
+match_shown (application at q ts) u cs e = cc
+match_shown (let_in at bs v) u cs e = cc
+match_shown (for_all at vs v) u cs e = cc
+match_shown (there_exists at vs v) u cs e = cc
+match_shown (annotated at v ns) u cs e = cc
 
 annotated_shown : (raw : Term) (u : Term) (ns : Notes) → kind.Annotated u ns ≡ term_kind raw → (at : ℕ) × (raw ≡ annotated at u ns)
 annotated_shown (annotated at v ms) u ns e = let p : v ≡ u = cc in let q : ms ≡ ns = cc in (at, ap (λ z. annotated at z ms) p ∙ ap (annotated at u) q)
@@ -96,6 +106,9 @@ module _ (P : Term → Type 0) (raw : Term) where
 
   pub of_exists : (vs : List SortedSymbol) (u : Term) → kind.Exists vs u ≡ term_kind raw → ((at : ℕ) → P (there_exists at vs u)) → P raw
   of_exists vs u e h = let p = exists_shown raw vs u e in shown (there_exists p.0 vs u) p.1 (h p.0)
+
+  pub of_match : (u : Term) (cs : Cases) → kind.Match u cs ≡ term_kind raw → P (match_with (term_at raw) u cs) → P raw
+  of_match u cs e h = shown (match_with (term_at raw) u cs) (match_shown raw u cs e) h
 
   pub of_annotated : (u : Term) (ns : Notes) → kind.Annotated u ns ≡ term_kind raw → ((at : ℕ) → P (annotated at u ns)) → P raw
   of_annotated u ns e h = let p = annotated_shown raw u ns e in shown (annotated p.0 u ns) p.1 (h p.0)

@@ -1,16 +1,16 @@
 -- Each term has exactly one outcome. The symbols of a term and the sorts of its variables declare no name.
-use Rattle.std.proofs.Common.{◌≡◌, ℕ, ◌≤◌, ◌==◌, Bool, true, false, List, [], ◌∷◌, ◌++◌, codes, map, Option, Some, None, ◌⊎◌, inl, inr, refl, unwrap_or}
+use Rattle.std.proofs.Common.{◌≡◌, ℕ, zero, suc, arith, ◌≤◌, ◌==◌, Bool, true, false, List, [], ◌∷◌, ◌++◌, codes, map, Option, Some, None, ◌⊎◌, inl, inr, refl, unwrap_or}
 use Rattle.std.proofs.lemmas.Bool.{cases_Bool}
 use Rattle.std.specs.List.{list_any}
 use Rattle.std.specs.Str.{bytes_eq}
 use Rattle.lex_core.specs.declared.place.Place.{Place}
 use Rattle.lex_core.specs.declared.token.Tok.{Tok}
 use Rattle.sig_table.specs.declared.theories.Theories.{Theories}
-use Rattle.sig_table.specs.declared.code.Code.TheVariants.{NoRank, NumberTooLarge, WrongIndex, AmbiguousConstructor, WrongNamedTerm, WrongQualifiedSort, WrongTermSort, SortTooLarge}
+use Rattle.sig_table.specs.declared.code.Code.TheVariants.{NoRank, NumberTooLarge, WrongIndex, AmbiguousConstructor, WrongNamedTerm, WrongQualifiedSort, WrongTermSort, WrongBranchSort, SortTooLarge}
 use Rattle.judgement.specs.Judging.{Judging, Lawful, DeclaresNone, check, declare, done, find, names, ◌>>=◌}
-use Rattle.judgement.proofs.JudgementLaws.{lawful-done, lawful-check, lawful-declare, lawful-find, lawful-names, lawful-refuse, lawful-then, lawful-then_given, option_decided, value_once, value_or_fault, never_both, fault_once}
+use Rattle.judgement.proofs.JudgementLaws.{lawful-done, lawful-check, lawful-declare, lawful-find, lawful-names, lawful-then, lawful-then_given, option_decided, value_once, value_or_fault, never_both, fault_once}
 use Rattle.judgement.proofs.NamesKept.{none-done, none-check, none-find, none-then}
-use Rattle.term_grammar.specs.Syntax.{Identifier, symbol, indexed, Qualified, unqualified, qualified, qualified_at, SortedSymbol, Term, constant, qualified_term, application, let_in, for_all, there_exists, match_with, annotated, term_at, Terms, no_terms, with_term, Bindings, no_bindings, with_binding, Notes, no_notes, with_note, Note, named_note, pattern_note, attribute_note}
+use Rattle.term_grammar.specs.Syntax.{Identifier, symbol, indexed, Qualified, unqualified, qualified, qualified_at, SortedSymbol, Term, constant, qualified_term, application, let_in, for_all, there_exists, match_with, annotated, term_at, Terms, no_terms, with_term, Bindings, no_bindings, with_binding, Cases, no_cases, with_case, pattern_at, symbol_pattern, constructor_pattern, Notes, no_notes, with_note, Note, named_note, pattern_note, attribute_note}
 use Rattle.term_grammar.specs.Syntax as syntax
 use Rattle.sort_store.specs.CoreRanks.{bool}
 use Rattle.sort_store.specs.Tree.{Sort, node_count}
@@ -21,11 +21,17 @@ use Rattle.theory_bv.specs.declared.index.Index.{Index}
 use Rattle.theory_bv.specs.Indices.{greatest}
 use Rattle.theory_bv.specs.Ranks.{HasBvBadIndex, IsBvTooWide}
 use Rattle.typer.specs.BitVectors.{HasBitsRank, width_of}
-use Rattle.typer.specs.FunctionSymbols.{Signature, Function, theory, bits, declared, function_of, indexed_function, text_of, HasRank, is_ambiguous, is_fun_in_use, judge_result}
+use Rattle.term_store.specs.Command.{PlainConstructor, PlainDatatype}
+use Rattle.dt_rules.specs.PatternRules as pattern_rules
+use Rattle.dt_rules.proofs.CoverageTests.{covers_decided}
+use Rattle.dt_rules.proofs.PatternLaws.{lawful_pattern}
+use Rattle.typer.specs.MatchRules.{AreSmall, Instance, IsBranchSort, instance_of, judge_small, judge_typed_pattern, pattern_sorts, pattern_variables}
+use Rattle.typer.specs.SortSymbols.{is_text, or_else}
+use Rattle.typer.specs.FunctionSymbols.{Signature, Function, theory, bits, declared, function_of, indexed_function, tested, tester_of, text_of, HasRank, is_ambiguous, is_fun_in_use, judge_result}
 use Rattle.typer.specs.FreeVariables.{has_free, is_one_of}
 use Rattle.typer.specs.RankRules.{judge_rank}
 use Rattle.typer.specs.SortRules.{only_numeral}
-use Rattle.typer.specs.TermRules.{HasDivisor, IsNarrow, TakesIndices, MayBeNamed, PlainNote, literal_sort, number_after, bound, bound_sort, quantified, judge_binding, judge_bindings, judge_quantifier, judge_sorted, judge_variables, judge_name, judge_note, judge_notes, judge_function, judge_head, judge_indexed_head, judge_symbol, judge_application, judge_asked, identifier_of, judge_literal, judge_literal_sort, judge_term, judge_terms, Elaborates, TermFault}
+use Rattle.typer.specs.TermRules.{Case, HasDivisor, IsNarrow, TakesIndices, MayBeNamed, PlainNote, first_sort, judge_case, judge_cases, judge_covered, literal_sort, number_after, bound, bound_sort, quantified, judge_binding, judge_bindings, judge_quantifier, judge_sorted, judge_variables, judge_name, judge_note, judge_notes, judge_function, judge_head, judge_indexed_by, judge_indexed_theory, judge_symbol, judge_application, judge_asked, identifier_of, judge_literal, judge_literal_sort, judge_term, judge_terms, Elaborates, TermFault}
 use Rattle.typer.proofs.BitsRanks.{bad_index_decided, too_wide_decided, bits_rank_decided, bits_result_decided, bits_result_once}
 use Rattle.typer.proofs.HeadSteps.{no_divisor, zero_divisor, divisor}
 use Rattle.typer.proofs.RankDecisions.{theory_rank_decided, theory_result_decided, theory_result_once, instance_decided, instance_result_decided, instance_result_once}
@@ -119,10 +125,15 @@ module _ (signature : Signature) (vars : List (ℕ × Sort)) where
   lawful-head : (at : ℕ) (args : List Sort) (asked : Option Sort) (name : ℕ) → Lawful (judge_head signature at args asked name)
   lawful-head at args asked name = lawful-then _ _ (lawful-find _ _ _ (option_decided (function_of signature name))) (λ f. lawful-function f at args asked name [])
 
-  lawful-indexed_head : (at : ℕ) (args : List Sort) (asked : Option Sort) (name : ℕ) (is : List Tok) → Lawful (judge_indexed_head signature at args asked name is)
-  lawful-indexed_head at args asked name is =
+  lawful-indexed_theory : (at : ℕ) (args : List Sort) (asked : Option Sort) (name : ℕ) (is : List Tok) → Lawful (judge_indexed_theory signature at args asked name is)
+  lawful-indexed_theory at args asked name is =
       lawful-then _ _ (lawful-find _ _ _ (option_decided (indexed_function signature name is)))
       (λ f. lawful-then (check (TakesIndices signature f is) WrongIndex at) (λ _. judge_function signature f at args asked name (map (λ i. i.name) is)) (lawful-check _ _ _ (indices_decided signature is f)) (λ _. lawful-function f at args asked name _))
+
+  lawful-indexed_by : (b : Bool) (at : ℕ) (args : List Sort) (asked : Option Sort) (name : ℕ) (is : List Tok) → Lawful (judge_indexed_by b signature at args asked name is)
+  lawful-indexed_by true at args asked name is =
+      lawful-then _ _ (lawful-find _ _ _ (option_decided (tested signature is))) (λ c. lawful-then _ _ (lawful-result signature.theories at args asked (declared (tester_of c.1))) (λ r. lawful-done _))
+  lawful-indexed_by false at args asked name is = lawful-indexed_theory at args asked name is
 
   lawful-symbol : (o : Option Sort) (at : ℕ) (args : List PlainTerm) (asked : Option Sort) (name : ℕ) → Lawful (judge_symbol signature o at args asked name)
   lawful-symbol (Some s) at args asked name = lawful-then _ _ (lawful-check _ _ _ (bare_decided args asked)) (λ _. lawful-done _)
@@ -130,7 +141,7 @@ module _ (signature : Signature) (vars : List (ℕ × Sort)) where
 
   lawful-application : (i : Identifier) (at : ℕ) (args : List PlainTerm) (asked : Option Sort) → Lawful (judge_application signature vars at args asked i)
   lawful-application (symbol t) at args asked = lawful-symbol (bound vars t.name) at args asked t.name
-  lawful-application (indexed _ t is) at args asked = lawful-then _ _ (lawful-indexed_head at (map plain_sort args) asked t.name is) (λ h. lawful-done _)
+  lawful-application (indexed _ t is) at args asked = lawful-then _ _ (lawful-indexed_by (is_text signature.texts (codes "is") t.name) at (map plain_sort args) asked t.name is) (λ h. lawful-done _)
 
   lawful-asked : (q : Qualified) → Lawful (judge_asked signature q)
   lawful-asked (unqualified i) = lawful-done _
@@ -146,6 +157,10 @@ module _ (signature : Signature) (vars : List (ℕ × Sort)) where
   none-function : (f : Function) (at : ℕ) (args : List Sort) (asked : Option Sort) (name : ℕ) (indices : List ℕ) → DeclaresNone (judge_function signature f at args asked name indices)
   none-function f at args asked name indices = none-then _ _ (none-result signature.theories at args asked f) (λ r. none-done _)
 
+  none-indexed_by : (b : Bool) (at : ℕ) (args : List Sort) (asked : Option Sort) (name : ℕ) (is : List Tok) → DeclaresNone (judge_indexed_by b signature at args asked name is)
+  none-indexed_by true at args asked name is = none-then _ _ (none-find _ _ _) (λ c. none-then _ _ (none-result signature.theories at args asked (declared (tester_of c.1))) (λ r. none-done _))
+  none-indexed_by false at args asked name is = none-then _ _ (none-find _ _ _) (λ f. none-then _ _ (none-check _ _ _) (λ _. none-function f at args asked name _))
+
   none-symbol : (o : Option Sort) (at : ℕ) (args : List PlainTerm) (asked : Option Sort) (name : ℕ) → DeclaresNone (judge_symbol signature o at args asked name)
   none-symbol (Some s) at args asked name = none-then _ _ (none-check _ _ _) (λ _. none-done _)
   none-symbol None at args asked name = none-then _ _ (none-then _ _ (none-find _ _ _) (λ f. none-function f at (map plain_sort args) asked name [])) (λ h. none-done _)
@@ -153,7 +168,7 @@ module _ (signature : Signature) (vars : List (ℕ × Sort)) where
   pub none-application : (i : Identifier) (at : ℕ) (args : List PlainTerm) (asked : Option Sort) → DeclaresNone (judge_application signature vars at args asked i)
   none-application (symbol t) at args asked = none-symbol (bound vars t.name) at args asked t.name
   none-application (indexed _ t is) at args asked =
-      none-then _ _ (none-then _ _ (none-find _ _ _) (λ f. none-then _ _ (none-check _ _ _) (λ _. none-function f at (map plain_sort args) asked t.name _))) (λ h. none-done _)
+      none-then _ _ (none-indexed_by (is_text signature.texts (codes "is") t.name) at (map plain_sort args) asked t.name is) (λ h. none-done _)
 
   pub none-asked : (q : Qualified) → DeclaresNone (judge_asked signature q)
   none-asked (unqualified i) = none-done _
@@ -166,6 +181,53 @@ lawful-binding repeated x value h = lawful-then _ _ (lawful-check _ _ _ (is_fals
 lawful-quantifier : (all : Bool) (at : ℕ) (variables : Judging (List (ℕ × Sort))) (body : List (ℕ × Sort) → Judging PlainTerm) → Lawful variables → ((vs : List (ℕ × Sort)) → Lawful (body vs)) → Lawful (judge_quantifier all at variables body)
 lawful-quantifier all at variables body h k =
     lawful-then _ _ h (λ vs. lawful-then _ _ (k vs) (λ u. lawful-then (check (plain_sort u ≡ bool) WrongTermSort at) (λ _. done (quantified all vs u)) (lawful-check _ _ _ (sort_decided (plain_sort u) bool)) (λ _. lawful-done _)))
+
+all_small : (ss : List Sort) → AreSmall ss ⊎ (AreSmall ss → ⊥)
+all_small [] = inl (λ k d l. absurd (omega (arith, l)))
+all_small (s ∷ ss) = by (at_most (node_count s) 1000) (all_small ss)
+  where
+    by : ((node_count s ≤ 1000) ⊎ (node_count s ≤ 1000 → ⊥)) → (AreSmall ss ⊎ (AreSmall ss → ⊥)) → AreSmall (s ∷ ss) ⊎ (AreSmall (s ∷ ss) → ⊥)
+    by (inl h) (inl k) = inl all
+      where
+        all : AreSmall (s ∷ ss)
+        all zero d l = h
+        all (suc i) d l = k i d (omega (arith, l))
+    by (inr n) k = inr (λ h. n (h zero s (omega arith)))
+    by (inl h) (inr n) = inr (λ k. n (λ i d l. k (suc i) d (omega (arith, l))))
+
+branch_sort : (first : Option Sort) (s : Sort) → IsBranchSort first s ⊎ (IsBranchSort first s → ⊥)
+branch_sort None s = inl tt
+branch_sort (Some first) s = sort_decided s first
+
+-- the parts of a match
+lawful-typed_pattern : (i : Instance) (p : syntax.Pattern) → Lawful (judge_typed_pattern i p)
+lawful-typed_pattern i p =
+    lawful-then _ _ (lawful_pattern i.0 p)
+    (λ q. lawful-then (judge_small (pattern_at p) (pattern_sorts i q)) (λ _. done q) (lawful-then _ _ (lawful-check _ _ _ (all_small (pattern_sorts i q))) (λ _. lawful-done _)) (λ _. lawful-done _))
+
+none-variables_of : (ns : List ℕ) (vs : List Tok) → DeclaresNone (pattern_rules.judge_variables ns vs)
+none-variables_of ns [] = none-done _
+none-variables_of ns (v ∷ vs) = none-then _ _ (none-check _ _ _) (λ _. none-variables_of (ns ++ v.name ∷ []) vs)
+
+none-pattern_constant : (t : Tok) (o : Option PlainConstructor) → DeclaresNone (pattern_rules.judge_constant t o)
+none-pattern_constant t None = none-done _
+none-pattern_constant t (Some c) = none-then _ _ (none-check _ _ _) (λ _. none-done _)
+
+none-pattern : (t : PlainDatatype) (p : syntax.Pattern) → DeclaresNone (pattern_rules.judge_pattern t p)
+none-pattern t (symbol_pattern s) = none-pattern_constant s (pattern_rules.constructor_named t s.name)
+none-pattern t (constructor_pattern at s vs) = none-then _ _ (none-find _ _ _) (λ c. none-then _ _ (none-check _ _ _) (λ _. none-then _ _ (none-variables_of [] vs) (λ ns. none-done _)))
+
+pub none-typed_pattern : (i : Instance) (p : syntax.Pattern) → DeclaresNone (judge_typed_pattern i p)
+none-typed_pattern i p = none-then _ _ (none-pattern i.0 p) (λ q. none-then (judge_small (pattern_at p) (pattern_sorts i q)) (λ _. done q) (none-then _ _ (none-check _ _ _) (λ _. none-done _)) (λ _. none-done _))
+
+lawful-case : (i : Instance) (s : Sort) (first : Option Sort) (p : syntax.Pattern) (at : ℕ) (branch : List (ℕ × Sort) → Judging PlainTerm) → ((own : List (ℕ × Sort)) → Lawful (branch own)) → Lawful (judge_case i s first p at branch)
+lawful-case i s first p at branch h =
+    lawful-then _ _ (lawful-typed_pattern i p) (λ q. lawful-then _ _ (h (pattern_variables i s q))
+    (λ u. lawful-then (check (IsBranchSort first (plain_sort u)) WrongBranchSort at) (λ _. done (q, u)) (lawful-check _ _ _ (branch_sort first (plain_sort u))) (λ _. lawful-done _)))
+
+lawful-covered : (at : ℕ) (t : PlainDatatype) (u : PlainTerm) (cs : List Case) → Lawful (judge_covered at t u cs)
+lawful-covered at t u cs =
+    lawful-then _ _ (lawful-check _ _ _ (covers_decided (map (λ (c : Case). c.0) cs) t)) (λ _. lawful-then _ _ (lawful-find _ _ _ (option_decided (first_sort cs))) (λ s. lawful-done _))
 
 module _ (signature : Signature) where
   lawful-sorted : (name : ℕ) (raw : syntax.Sort) → Lawful (judge_sorted signature name raw)
@@ -199,7 +261,9 @@ module _ (signature : Signature) where
     lawful-term (let_in at bs u) vars = lawful-then _ _ (lawful-bindings bs vars []) (λ cs. lawful-then _ _ (lawful-term u (vars ++ map bound_sort cs)) (λ v. lawful-done _))
     lawful-term (for_all at vs u) vars = lawful-quantifier true (term_at u) (judge_variables signature vs) (λ ws. judge_term signature (vars ++ ws) u) (lawful-variables vs) (λ ws. lawful-term u (vars ++ ws))
     lawful-term (there_exists at vs u) vars = lawful-quantifier false (term_at u) (judge_variables signature vs) (λ ws. judge_term signature (vars ++ ws) u) (lawful-variables vs) (λ ws. lawful-term u (vars ++ ws))
-    lawful-term (match_with at u cs) vars = lawful-refuse _ _
+    lawful-term (match_with at u cs) vars =
+        lawful-then _ _ (lawful-term u vars) (λ v. lawful-then _ _ (lawful-find _ _ _ (option_decided (instance_of signature.datatypes (plain_sort v))))
+        (λ i. lawful-then _ _ (lawful-cases cs vars i (plain_sort v) None) (λ ds. lawful-covered at i.0 v ds)))
     lawful-term (annotated at u ns) vars = lawful-then _ _ (lawful-term u vars) (λ v. lawful-then _ _ (lawful-notes ns vars v) (λ ms. lawful-done _))
 
     pub lawful-terms : (ts : Terms) (vars : List (ℕ × Sort)) → Lawful (judge_terms signature vars ts)
@@ -209,6 +273,12 @@ module _ (signature : Signature) where
     lawful-bindings : (bs : Bindings) (vars : List (ℕ × Sort)) (others : List ℕ) → Lawful (judge_bindings signature vars others bs)
     lawful-bindings no_bindings vars others = lawful-done _
     lawful-bindings (with_binding at x t bs) vars others = lawful-then _ _ (lawful-binding (list_any (λ n. n == x.name) others) x (judge_term signature vars t) (lawful-term t vars)) (λ c. lawful-then _ _ (lawful-bindings bs vars (others ++ x.name ∷ [])) (λ cs. lawful-done _))
+
+    lawful-cases : (cs : Cases) (vars : List (ℕ × Sort)) (i : Instance) (s : Sort) (first : Option Sort) → Lawful (judge_cases signature vars i s first cs)
+    lawful-cases no_cases vars i s first = lawful-done _
+    lawful-cases (with_case at p u cs) vars i s first =
+        lawful-then _ _ (lawful-case i s first p (term_at u) (λ own. judge_term signature (vars ++ own) u) (λ own. lawful-term u (vars ++ own)))
+        (λ c. lawful-then _ _ (lawful-cases cs vars i s (or_else first (Some (plain_sort c.1)))) (λ ds. lawful-done _))
 
     lawful-notes : (ns : Notes) (vars : List (ℕ × Sort)) (u : PlainTerm) → Lawful (judge_notes signature vars u ns)
     lawful-notes no_notes vars u = lawful-done _

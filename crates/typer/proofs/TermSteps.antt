@@ -1,16 +1,18 @@
 -- What the outcomes of the parts of a term say of the whole.
 use Rattle.std.proofs.Common.{◌≡◌, ℕ, suc, ◌+◌, List, [], Option, Some, None, Result, Ok, Err, refl, sym, inl, inr, subst}
 use Rattle.judgement.specs.Judging.{Judging, well_sorted, ill_sorted, ◌>>=◌}
-use Rattle.term_grammar.specs.Syntax.{Term, application, let_in, for_all, there_exists, annotated, Terms, no_terms, with_term, Bindings, no_bindings, with_binding, Notes, no_notes, with_note, Note, pattern_note}
+use Rattle.term_grammar.specs.Syntax.{Term, application, let_in, for_all, there_exists, match_with, annotated, Terms, no_terms, with_term, Bindings, no_bindings, with_binding, Cases, no_cases, with_case, Notes, no_notes, with_note, Note, pattern_note}
 use Rattle.term_grammar.specs.declared.binder.RawBinding.{RawBinding}
-use Rattle.term_grammar.specs.TermViews.{SplitsTerms, SplitsBindings, SplitsNotes}
+use Rattle.term_grammar.specs.declared.pattern.RawCase.{RawCase}
+use Rattle.term_grammar.specs.TermViews.{SplitsTerms, SplitsBindings, SplitsCases, SplitsNotes}
 use Rattle.sort_store.specs.Tree.{Sort}
 use Rattle.term_store.specs.Term.{PlainTerm}
-use Rattle.typer.specs.declared.error.TyError.{TyError}
-use Rattle.typer.specs.declared.error.TyError.TheVariants as error
+use Rattle.dt_rules.specs.declared.error.TyError.{TyError}
+use Rattle.dt_rules.specs.declared.error.TyError.TheVariants as error
 use Rattle.typer.specs.Answers.{Answers, Meets}
 use Rattle.typer.specs.FunctionSymbols.{Signature}
-use Rattle.typer.specs.TermRules.{judge_bindings, judge_note, judge_notes, judge_term, judge_terms}
+use Rattle.typer.specs.MatchRules.{Instance}
+use Rattle.typer.specs.TermRules.{judge_bindings, judge_cases, judge_note, judge_notes, judge_term, judge_terms}
 use Rattle.typer.proofs.ListSteps.{Joins}
 
 -- how many parts a term has, itself among them, as far as they are judged
@@ -20,6 +22,7 @@ abbrev mutual
   size (let_in at bs u) = suc (suc (bindings_size bs + size u))
   size (for_all at vs u) = suc (suc (size u))
   size (there_exists at vs u) = suc (suc (size u))
+  size (match_with at u cs) = suc (suc (size u + cases_size cs))
   size (annotated at u ns) = suc (suc (size u + notes_size ns))
   size _ = 1
 
@@ -30,6 +33,10 @@ abbrev mutual
   pub bindings_size : Bindings → ℕ
   bindings_size no_bindings = 0
   bindings_size (with_binding at x t bs) = suc (size t + bindings_size bs)
+
+  pub cases_size : Cases → ℕ
+  cases_size no_cases = 0
+  cases_size (with_case at p t cs) = suc (suc (size t + cases_size cs))
 
   pub notes_size : Notes → ℕ
   notes_size no_notes = 0
@@ -48,6 +55,10 @@ left (Some p) = with_term p.0 p.1
 abbrev pub bindings_left : Option (RawBinding × Bindings) → Bindings
 bindings_left None = no_bindings
 bindings_left (Some p) = with_binding p.0.at p.0.name p.0.term p.1
+
+abbrev pub cases_left : Option (RawCase × Cases) → Cases
+cases_left None = no_cases
+cases_left (Some p) = with_case p.0.at p.0.pattern p.0.term p.1
 
 abbrev pub notes_left : Option (Note × Notes) → Notes
 notes_left None = no_notes
@@ -92,6 +103,10 @@ pub bindings_left_is : (bs : Bindings) (next : Option (RawBinding × Bindings)) 
 bindings_left_is bs None e = sym e
 bindings_left_is bs (Some p) e = sym e
 
+pub cases_left_is : (cs : Cases) (next : Option (RawCase × Cases)) → SplitsCases cs next → cases_left next ≡ cs
+cases_left_is cs None e = sym e
+cases_left_is cs (Some p) e = sym e
+
 pub notes_left_is : (ns : Notes) (next : Option (Note × Notes)) → SplitsNotes ns next → notes_left next ≡ ns
 notes_left_is ns None e = sym e
 notes_left_is ns (Some p) e = sym e
@@ -111,6 +126,9 @@ module _ (signature : Signature) (vars : List (ℕ × Sort)) where
 
   pub no_bindings_left : (others : List ℕ) (bs : Bindings) → bs ≡ no_bindings → (before : List ℕ) → judge_bindings signature vars others bs before (well_sorted [] before)
   no_bindings_left others bs e before = subst (λ z. judge_bindings signature vars others z before (well_sorted [] before)) (sym e) (refl, refl)
+
+  pub no_cases_left : (i : Instance) (s : Sort) (first : Option Sort) (cs : Cases) → cs ≡ no_cases → (before : List ℕ) → judge_cases signature vars i s first cs before (well_sorted [] before)
+  no_cases_left i s first cs e before = subst (λ z. judge_cases signature vars i s first z before (well_sorted [] before)) (sym e) (refl, refl)
 
   pub none_left : (ts : Terms) → ts ≡ no_terms → (before : List ℕ) → judge_terms signature vars ts before (well_sorted [] before)
   none_left ts e before = subst (λ z. judge_terms signature vars z before (well_sorted [] before)) (sym e) (refl, refl)

@@ -23,7 +23,7 @@ use Rattle.theory_core.specs.IntsRanks.{ints_symbols}
 use Rattle.theory_core.specs.ArraysRanks.{array, arrays_symbols}
 use Rattle.typer.specs.Answers as typer
 use Rattle.typer.specs.Answers.{fault_at}
-use Rattle.typer.specs.declared.error.TyError.{TyError}
+use Rattle.dt_rules.specs.declared.error.TyError.{TyError}
 use Rattle.typer.specs.FunctionSymbols.{if_present, symbols_past_core, judge_theory}
 use Rattle.typer.proofs.RankAnswers.{asked_result, no_rank}
 

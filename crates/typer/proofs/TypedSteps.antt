@@ -86,6 +86,9 @@ same_signature old new h = ap signature_of h.others
 pub same_seen : (old new : World) → HasGrown old new → new.seen.items ≡ old.seen.items
 same_seen old new h = ap (λ (w : World). w.seen.items) h.others
 
+pub same_script : (old new : World) → HasElaborated old new → new.script ≡ old.script
+same_script old new h = ap (λ (w : World). w.script) h.others
+
 abbrev with_first : ℕ → Signature → Signature
 with_first first signature = record signature { first = first }
 
@@ -93,7 +96,7 @@ pub elaborated_signature : (old new : World) → HasElaborated old new → signa
 elaborated_signature old new h = ap (λ w. with_first (first_number new) (signature_of w)) h.others ∙ ap (λ n. with_first n (signature_of old)) h.first
 
 pub ready_with_terms : (old : World) (made : List PlainTerm) → IsReady old → IsReady (record old { terms = made })
-ready_with_terms old made ready = record { distinct = ready.distinct; sorts = ready.sorts; funs = ready.funs; numbered = ready.numbered }
+ready_with_terms old made ready = record { distinct = ready.distinct; sorts = ready.sorts; funs = ready.funs; datatypes = ready.datatypes; numbered = ready.numbered }
 
 module _ (old new : World) (elaborated : HasElaborated old new) where
   pub sort_kept : (r : NumberedSort) → sorts.IsInterned old.sorts r → sorts.IsInterned new.sorts r

@@ -6,7 +6,7 @@ use Rattle.term_grammar.specs.Syntax.{SortedSymbol}
 use Rattle.term_grammar.specs.declared.binder.RawVariable.{RawVariable}
 use Rattle.term_grammar.specs.TermViews.{SplitsVariables}
 use Rattle.sort_store.specs.Tree.{Sort}
-use Rattle.typer.specs.declared.error.TyError.{TyError}
+use Rattle.dt_rules.specs.declared.error.TyError.{TyError}
 use Rattle.typer.specs.declared.world.World.{World}
 use Rattle.typer.specs.Answers.{Answers}
 use Rattle.typer.specs.FunctionSymbols.{Signature, signature_of}

@@ -9,8 +9,9 @@ use Rattle.sig_table.specs.declared.code.Code.{Code}
 use Rattle.sig_table.specs.declared.code.Code.TheVariants.{SortTooLarge}
 use Rattle.sort_store.specs.declared.error.SortError.{SortError}
 use Rattle.sort_store.specs.declared.error.SortError.TheVariants as store
-use Rattle.typer.specs.declared.error.TyError.{TyError}
-use Rattle.typer.specs.declared.error.TyError.TheVariants as error
+pub use Rattle.dt_rules.specs.Answers.{Answers}
+use Rattle.dt_rules.specs.declared.error.TyError.{TyError}
+use Rattle.dt_rules.specs.declared.error.TyError.TheVariants as error
 use Rattle.term_store.specs.declared.parts.Applied.{Applied}
 use Rattle.term_store.specs.Term.{NumberedTerm, PlainTerm, plain_var}
 use Rattle.term_store.specs.Term as terms
@@ -18,18 +19,15 @@ use Rattle.typer.specs.declared.head.TypedHead.{TypedHead}
 use Rattle.typer.specs.declared.typed.TypedTerm.{TypedTerm}
 use Rattle.typer.specs.declared.typed.TypedTerms.{TypedTerms}
 use Rattle.typer.specs.declared.typed.TypedBinding.{TypedBinding}
+use Rattle.typer.specs.declared.typed.TypedCase.{TypedCase}
+use Rattle.typer.specs.declared.typed.TypedCases.{TypedCases}
+use Rattle.typer.specs.declared.typed.TypedPattern.{TypedPattern}
+use Rattle.term_store.specs.declared.parts.Pattern.{Pattern}
 use Rattle.term_store.specs.declared.term.Note.{Note}
-use Rattle.typer.specs.TermRules.{Binding, PlainNote}
-use Rattle.typer.specs.Typed.{binding_tree, plain_note}
+use Rattle.typer.specs.TermRules.{Binding, Case, PlainNote}
+use Rattle.typer.specs.Typed.{binding_tree, case_tree, case_trees, plain_note}
 
--- Ok has the value that the thing is well sorted with, a fault has the place, and want of memory says nothing. The names
--- that the command has declared play no part.
-abbrev pub Answers : {A : Type 0} → Result A TyError → Judging A → Type 0
-Answers (Ok x) J = (before : List ℕ) → J before (well_sorted x before)
-Answers (Err (error.Fault place)) J = (before : List ℕ) → J before (ill_sorted place)
-Answers (Err error.NoMemory) J = ⊤
-
--- The same of a thing that may declare names: Ok has the value after these names that the command has declared, with those that
+-- A thing that may declare names: Ok has the value after these names that the command has declared, with those that
 -- it has declared then; a fault comes after the names before.
 abbrev pub Meets : {A : Type 0} → Result A TyError → Judging A → List ℕ → List ℕ → Type 0
 Meets (Ok x) J before after = J before (well_sorted x after)
@@ -91,6 +89,24 @@ variables_answer (Err e) = Err e
 abbrev pub bindings_answer : Result (Vec TypedBinding Global) TyError → Result (List Binding) TyError
 bindings_answer (Ok bindings) = Ok (map binding_tree bindings.items)
 bindings_answer (Err e) = Err e
+
+-- what has these sorts where it is made
+abbrev pub sorts_answer : {A : Type 0} → List Sort → Result A TyError → Result (List Sort) TyError
+sorts_answer ss (Ok x) = Ok ss
+sorts_answer ss (Err e) = Err e
+
+-- a case of a match
+abbrev pub case_answer : Result TypedCase TyError → Result Case TyError
+case_answer (Ok c) = Ok (case_tree c)
+case_answer (Err e) = Err e
+
+abbrev pub cases_answer : Result TypedCases TyError → Result (List Case) TyError
+cases_answer (Ok cases) = Ok (case_trees cases)
+cases_answer (Err e) = Err e
+
+abbrev pub pattern_answer : Result TypedPattern TyError → Result Pattern TyError
+pattern_answer (Ok p) = Ok p.pattern
+pattern_answer (Err e) = Err e
 
 abbrev pub note_answer : Result Note TyError → Result PlainNote TyError
 note_answer (Ok note) = Ok (plain_note note)

@@ -1,15 +1,21 @@
 -- What the function symbol of a term stands for, and the ranks that it has (SMT-LIB 2.6, section 3.6).
-use Rattle.std.specs.Prelude.{ℕ, ◌-◌, Bool, false, ◌&&◌, ◌||◌, if◌then◌else◌, List, [], ◌++◌, length, map, slice_index_or, Option, Some, None, option_map}
+use Rattle.std.specs.Prelude.{ℕ, ◌-◌, Bool, true, false, ◌&&◌, ◌||◌, if◌then◌else◌, List, [], ◌∷◌, ◌++◌, length, map, slice_index_or, Option, Some, None, option_map}
 use Rattle.std.specs.Option.{is_some}
 use Rattle.sig_table.specs.declared.theories.Theories.{Theories}
 use Rattle.sig_table.specs.declared.theories.NameForm.{NameForm}
 use Rattle.sig_table.specs.declared.theories.NameForm.TheVariants as form
 use Rattle.lex_core.specs.declared.token.Tok.{Tok}
+use Rattle.sort_store.specs.CoreRanks.{bool}
 use Rattle.sort_store.specs.Tree.{Sort}
+use Rattle.term_store.specs.Command.{PlainDatatype, plain_datatype}
+use Rattle.term_store.specs.Script.{Kept}
 use Rattle.judgement.specs.Judging.{Judging}
 use Rattle.sort_store.specs.Ranks.{RankedSymbol, ranks_of}
 use Rattle.sort_store.specs.Ranks as ranks
+use Rattle.term_grammar.specs.Words.{is_numeral}
 use Rattle.scope_stack.specs.Levels.{found}
+use Rattle.scope_stack.specs.declared.entry.FunKind.{FunKind}
+use Rattle.scope_stack.specs.declared.entry.FunKind.TheVariants as kind
 use Rattle.theory_core.specs.IntsRanks.{ints_symbols}
 use Rattle.theory_core.specs.ArraysRanks.{arrays_symbols}
 use Rattle.theory_core.specs.TheorySymbols.{theory_symbols, form_of}
@@ -23,11 +29,12 @@ use Rattle.typer.specs.LiveRanks as live
 use Rattle.typer.specs.RankRules.{judge_rank}
 use Rattle.typer.specs.SortSymbols.{or_else, is_theory_sort}
 
--- What the symbols of a term are looked up in: the texts of the names, the live declarations and the theories of the logic; and
--- the number of the first name that the command declares.
+-- What the symbols of a term are looked up in: the texts of the names, the live declarations, the datatypes declared so far and
+-- the theories of the logic; and the number of the first name that the command declares.
 pub record Signature : Type 0 where
   pub texts : List (List ℕ)
   pub declarations : Declarations
+  pub datatypes : List PlainDatatype
   pub theories : Theories
   pub first : ℕ
 
@@ -41,9 +48,19 @@ pub data Function : Type 0 where
 abbrev pub first_number : World → ℕ
 first_number world = world.next.0 - length world.seen.items
 
+-- the datatypes that a script keeps
+abbrev pub datatypes_of : Kept → List PlainDatatype
+datatypes_of script = map plain_datatype script.defs.datatypes
+
 -- the signature of a world
 abbrev pub signature_of : World → Signature
-signature_of world = record { texts = world.names; declarations = declarations_of world.scopes; theories = world.theories; first = first_number world }
+signature_of world = record {
+  texts = world.names;
+  declarations = declarations_of world.scopes;
+  datatypes = datatypes_of world.script;
+  theories = world.theories;
+  first = first_number world;
+}
 
 abbrev pub text_of : Signature → ℕ → List ℕ
 text_of signature name = slice_index_or signature.texts name []
@@ -72,6 +89,33 @@ abbrev pub indexed_function : Signature → ℕ → List Tok → Option Function
 indexed_function signature name is =
     or_else (if_indexed (form_of signature.theories (text_of signature name)) (theory (text_of signature name)))
     (if_indexed (bits_form signature.theories (text_of signature name)) (bits (text_of signature name) (map (index_of signature.texts) is)))
+
+-- the live constructor of this name
+abbrev pub is_constructor : FunKind → Bool
+is_constructor kind.Constructor = true
+is_constructor _ = false
+
+abbrev pub if_constructor : ℕ → Option FunDeclaration → Option (ℕ × FunDeclaration)
+if_constructor name None = None
+if_constructor name (Some f) = if is_constructor f.kind then Some (name, f) else None
+
+-- the index, where there is one alone and it is a symbol
+abbrev pub only_symbol : List Tok → Option Tok
+only_symbol [] = None
+only_symbol (t ∷ []) = if is_numeral t then None else Some t
+only_symbol (t ∷ (u ∷ us)) = None
+
+abbrev pub constructor_at : Signature → Option Tok → Option (ℕ × FunDeclaration)
+constructor_at signature None = None
+constructor_at signature (Some t) = if_constructor t.name (found t.name signature.declarations.funs)
+
+-- the constructor of ( _ is c ), whose only index names it
+abbrev pub tested : Signature → List Tok → Option (ℕ × FunDeclaration)
+tested signature is = constructor_at signature (only_symbol is)
+
+-- the tester of a constructor takes its datatype
+abbrev pub tester_of : FunDeclaration → FunDeclaration
+tester_of f = record { number = f.number; kind = f.kind; params = f.params; args = f.result ∷ []; result = bool }
 
 -- the symbols of a theory, where the logic has it
 abbrev pub if_present : Bool → List RankedSymbol → List RankedSymbol

@@ -8,6 +8,7 @@ pub mod RankRules
 pub mod LiveRanks
 pub mod BitVectors
 pub mod FunctionSymbols
+pub mod MatchRules
 pub mod TermRules
 pub mod FreeVariables
 pub mod NamedTerms

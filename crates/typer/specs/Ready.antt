@@ -1,13 +1,15 @@
 -- What a world keeps: its table has the names of the live sort symbols and of the sorts that they stand for, its store has the
--- sorts of all live declarations, each once, and they have no parameter past the number that the declaration gives; and the
--- names that the command has declared have numbers below the next one.
+-- sorts of all live declarations, each once, and they have no parameter past the number that the declaration gives, nor have the
+-- fields of datatypes; and the names that the command has declared have numbers below the next one.
 use Rattle.std.specs.Prelude.{◌≡◌, ℕ, ◌<◌, ◌≤◌, Bool, true, false, List, length, ⊤}
 use Rattle.std.specs.List.{All}
 use Rattle.sig_table.specs.declared.theories.Theories.{Theories}
 use Rattle.sort_store.specs.declared.head.Head.{Head}
 use Rattle.sort_store.specs.declared.head.Head.TheVariants as head
 use Rattle.sort_store.specs.Tree.{Sort, sort, SortList, no_sorts, more_sorts, NumberedSort, tree}
+use Rattle.sort_store.specs.Instance.{ParamsBelow}
 use Rattle.sort_store.specs.Interned.{IsInterned, HasNoRepeats}
+use Rattle.term_store.specs.Command.{PlainConstructor, PlainDatatype, PlainField}
 use Rattle.scope_stack.specs.declared.entry.FunEntry.{FunEntry}
 use Rattle.scope_stack.specs.declared.entry.FunKind.{FunKind}
 use Rattle.scope_stack.specs.declared.entry.FunKind.TheVariants as kind
@@ -15,6 +17,7 @@ use Rattle.scope_stack.specs.declared.entry.SortEntry.{SortEntry}
 use Rattle.scope_stack.specs.declared.entry.SortEntry.TheVariants as entry
 use Rattle.scope_stack.specs.Levels.{live}
 use Rattle.typer.specs.declared.world.World.{World}
+use Rattle.typer.specs.FunctionSymbols.{datatypes_of}
 use Rattle.typer.specs.LiveRanks.{IsReadyEntry}
 use Rattle.typer.specs.SortSymbols.{is_theory_sort}
 
@@ -60,8 +63,13 @@ pub record IsReadySort (texts : List (List ℕ)) (theories : Theories) (store : 
   pub no_theory_sort : is_theory_sort texts theories d.0 ≡ false
   pub entry : IsReadySortEntry texts store d.1
 
+-- no field sort of a datatype has a parameter past those of the datatype
+abbrev pub IsReadyDatatype : PlainDatatype → Type 0
+IsReadyDatatype t = All (λ (c : PlainConstructor). All (λ (f : PlainField). ParamsBelow (length t.params) f.sort) c.fields) t.constructors
+
 pub record IsReady (world : World) : Type 0 where
   pub distinct : HasNoRepeats world.sorts
   pub sorts : All (IsReadySort world.names world.theories world.sorts) (live world.scopes.sorts)
   pub funs : All (λ (d : ℕ × FunEntry). IsReadyFunEntry world.sorts d.1) (live world.scopes.funs)
+  pub datatypes : All IsReadyDatatype (datatypes_of world.script)
   pub numbered : length world.seen.items ≤ world.next.0

@@ -2,31 +2,37 @@
 -- and these from left to right.
 use Rattle.std.specs.Prelude.{◌≡◌, ℕ, ◌+◌, ◌-◌, ◌*◌, ◌≤◌, ◌==◌, Bool, true, false, not, IsTrue, if◌then◌else◌, List, [], ◌∷◌, ◌++◌, length, codes, bytes_eq, map, Option, Some, None, unwrap_or, ⊤}
 use Rattle.std.specs.List.{list_any}
-use Rattle.sig_table.specs.declared.code.Code.TheVariants.{WrongTermForm, WrongTermSort, LiteralWithoutSort, NumberTooLarge, UnknownFunction, WrongIndex, AppliedVariable, RepeatedVariable, WrongNamedTerm}
+use Rattle.sig_table.specs.declared.code.Code.TheVariants.{WrongTermForm, WrongTermSort, WrongBranchSort, UncoveredConstructor, MatchOnNonDatatype, LiteralWithoutSort, NumberTooLarge, UnknownFunction, WrongIndex, AppliedVariable, RepeatedVariable, WrongNamedTerm}
 use Rattle.sig_table.specs.declared.theories.Theories.{Theories}
 use Rattle.lex_core.specs.declared.place.Place.{Place}
 use Rattle.lex_core.specs.declared.token.Tok.{Tok}
 use Rattle.lex_core.specs.declared.token.TokKind.{TokKind}
 use Rattle.lex_core.specs.declared.token.TokKind.TheVariants as kind
-use Rattle.judgement.specs.Judging.{Judging, well_sorted, ill_sorted, done, ◌>>=◌, check, find, refuse, names, declare}
+use Rattle.judgement.specs.Judging.{Judging, well_sorted, ill_sorted, done, ◌>>=◌, check, find, names, declare}
 use Rattle.sexp_core.specs.Sexp.{Sexp}
-use Rattle.term_grammar.specs.Syntax.{Identifier, symbol, indexed, Qualified, unqualified, qualified, qualified_at, SortedSymbol, Attribute, keyword_attribute, valued_attribute, constant, qualified_term, application, let_in, for_all, there_exists, match_with, annotated, term_at, Terms, no_terms, with_term, Bindings, no_bindings, with_binding, Notes, no_notes, with_note, Note, named_note, pattern_note, attribute_note}
+use Rattle.term_grammar.specs.Syntax.{Identifier, symbol, indexed, Qualified, unqualified, qualified, qualified_at, SortedSymbol, Attribute, keyword_attribute, valued_attribute, constant, qualified_term, application, let_in, for_all, there_exists, match_with, annotated, term_at, Terms, no_terms, with_term, Bindings, no_bindings, with_binding, no_cases, with_case, Notes, no_notes, with_note, Note, named_note, pattern_note, attribute_note}
 use Rattle.term_grammar.specs.Syntax as syntax
 use Rattle.sort_store.specs.declared.head.DeclNo.{DeclNo}
 use Rattle.sort_store.specs.Tree.{Sort}
 use Rattle.sort_store.specs.CoreRanks.{bool}
 use Rattle.theory_core.specs.IntsRanks.{int}
 use Rattle.theory_bv.specs.Indices.{greatest}
-use Rattle.term_store.specs.Term.{PlainTerm, term, lit, var, app, quant, ann, plain_sort, plain_terms}
+use Rattle.term_store.specs.Command.{PlainDatatype}
+use Rattle.term_store.specs.Term.{Cases, PlainTerm, term, lit, var, app, quant, match_on, ann, plain_sort, plain_terms}
 use Rattle.term_store.specs.Term as typed
 use Rattle.term_store.specs.Value.{unplaced}
 use Rattle.term_store.specs.declared.parts.Applied.{Applied}
+use Rattle.term_store.specs.declared.parts.Pattern.{Pattern}
+use Rattle.dt_rules.specs.Coverage.{Covers}
 use Rattle.term_store.specs.declared.parts.Fun.{Fun}
 use Rattle.term_store.specs.declared.parts.Fun.TheVariants as fun
 use Rattle.typer.specs.BitVectors.{bit_vector, width_of}
 use Rattle.typer.specs.SortRules.{only_numeral, judge_sort}
-use Rattle.typer.specs.SortSymbols.{or_else}
-use Rattle.typer.specs.FunctionSymbols.{Signature, Function, theory, bits, declared, function_of, indexed_function, text_of, is_ambiguous, judge_result, is_fun_in_use}
+use Rattle.typer.specs.Declarations.{FunDeclaration}
+use Rattle.typer.specs.LiveRanks.{judge_live}
+use Rattle.typer.specs.MatchRules.{Instance, IsBranchSort, instance_of, judge_typed_pattern, pattern_variables}
+use Rattle.typer.specs.SortSymbols.{is_text, or_else}
+use Rattle.typer.specs.FunctionSymbols.{Signature, Function, theory, bits, declared, function_of, indexed_function, tested, tester_of, text_of, is_ambiguous, judge_result, is_fun_in_use}
 use Rattle.typer.specs.FreeVariables.{has_free, is_one_of}
 
 -- the sort of a literal with this text, which begins with two other bytes where it is binary or hexadecimal: a hexadecimal digit
@@ -81,10 +87,30 @@ judge_indexed_function signature f at args asked name is = do
   _ ← check (TakesIndices signature f is) WrongIndex at
   judge_function signature f at args asked name (map (λ i. i.name) is)
 
-abbrev pub judge_indexed_head : Signature → ℕ → List Sort → Option Sort → ℕ → List Tok → Judging (Applied × Sort)
-judge_indexed_head signature at args asked name is = do
+-- .. of a theory
+abbrev pub judge_indexed_theory : Signature → ℕ → List Sort → Option Sort → ℕ → List Tok → Judging (Applied × Sort)
+judge_indexed_theory signature at args asked name is = do
   f ← find (λ f. indexed_function signature name is ≡ Some f) UnknownFunction at
   judge_indexed_function signature f at args asked name is
+
+-- the tester of a constructor, which is a number and a name
+abbrev pub applied_tester : ℕ → FunDeclaration → Applied
+applied_tester name f = record { fun = fun.Tester f.number; name = name; indices = []; qualify = false }
+
+-- ( _ is c ), whatever its indices
+abbrev pub judge_tester : Signature → ℕ → List Sort → Option Sort → List Tok → Judging (Applied × Sort)
+judge_tester signature at args asked is = do
+  c ← find (λ c. tested signature is ≡ Some c) WrongIndex at
+  result ← judge_live (tester_of c.1) at args asked
+  done (applied_tester c.0 c.1, result)
+
+abbrev pub judge_indexed_by : Bool → Signature → ℕ → List Sort → Option Sort → ℕ → List Tok → Judging (Applied × Sort)
+judge_indexed_by true signature at args asked name is = judge_tester signature at args asked is
+judge_indexed_by false signature at args asked name is = judge_indexed_theory signature at args asked name is
+
+-- a symbol written with indices: a tester, else a theory's
+abbrev pub judge_indexed_head : Signature → ℕ → List Sort → Option Sort → ℕ → List Tok → Judging (Applied × Sort)
+judge_indexed_head signature at args asked name is = judge_indexed_by (is_text signature.texts (codes "is") name) signature at args asked name is
 
 -- an application of a function symbol to arguments
 abbrev pub apply_head : Applied × Sort → List PlainTerm → PlainTerm
@@ -223,6 +249,38 @@ judge_name signature u t = do
   _ ← declare t.name
   done (typed.named (number_after signature seen) t.name)
 
+-- A case of a match: its pattern with its branch.
+abbrev pub Case : Type 0
+Case = Pattern × PlainTerm
+
+-- A case of a match on a term of this instance of a datatype. The branch, which begins at a byte, has the sort of the first one, and
+-- sees the variables of the pattern.
+abbrev pub judge_case : Instance → Sort → Option Sort → syntax.Pattern → ℕ → (List (ℕ × Sort) → Judging PlainTerm) → Judging Case
+judge_case i s first p at branch = do
+  q ← judge_typed_pattern i p
+  u ← branch (pattern_variables i s q)
+  _ ← check (IsBranchSort first (plain_sort u)) WrongBranchSort at
+  done (q, u)
+
+abbrev pub plain_cases : List Case → Cases (Unit {0}) Sort
+plain_cases [] = typed.no_cases
+plain_cases (c ∷ cs) = typed.more_cases c.0 c.1 (plain_cases cs)
+
+abbrev pub match_term : Sort → PlainTerm → List Case → PlainTerm
+match_term s u cs = term tt s (match_on u (plain_cases cs))
+
+-- the sort of the first branch
+abbrev pub first_sort : List Case → Option Sort
+first_sort [] = None
+first_sort (c ∷ cs) = Some (plain_sort c.1)
+
+-- A match with these cases, which cover the datatype. It has the sort of its first branch; without a case it is none.
+abbrev pub judge_covered : ℕ → PlainDatatype → PlainTerm → List Case → Judging PlainTerm
+judge_covered at t u cs = do
+  _ ← check (Covers (map (λ c. c.0) cs) t) UncoveredConstructor at
+  s ← find (λ s. first_sort cs ≡ Some s) WrongTermForm at
+  done (match_term s u cs)
+
 -- a term under a signature and the variables that are bound round it, the innermost last
 abbrev mutual
   pub judge_term : Signature → List (ℕ × Sort) → syntax.Term → Judging PlainTerm
@@ -238,7 +296,11 @@ abbrev mutual
     done (let_term cs v)
   judge_term signature vars (for_all at vs u) = judge_quantifier true (term_at u) (judge_variables signature vs) (λ ws. judge_term signature (vars ++ ws) u)
   judge_term signature vars (there_exists at vs u) = judge_quantifier false (term_at u) (judge_variables signature vs) (λ ws. judge_term signature (vars ++ ws) u)
-  judge_term signature vars (match_with at u cs) = refuse WrongTermForm at
+  judge_term signature vars (match_with at u cs) = do
+    v ← judge_term signature vars u
+    i ← find (λ i. instance_of signature.datatypes (plain_sort v) ≡ Some i) MatchOnNonDatatype (term_at u)
+    ds ← judge_cases signature vars i (plain_sort v) None cs
+    judge_covered at i.0 v ds
   judge_term signature vars (annotated at u ns) = do
     v ← judge_term signature vars u
     ms ← judge_notes signature vars v ns
@@ -258,6 +320,14 @@ abbrev mutual
     b ← judge_binding (list_any (λ n. n == x.name) others) x (judge_term signature vars t)
     cs ← judge_bindings signature vars (others ++ x.name ∷ []) bs
     done (b ∷ cs)
+
+  -- cases of a match on a term of this sort, after a branch of some sort if there is one before
+  pub judge_cases : Signature → List (ℕ × Sort) → Instance → Sort → Option Sort → syntax.Cases → Judging (List Case)
+  judge_cases signature vars i s first no_cases = done []
+  judge_cases signature vars i s first (with_case at p u cs) = do
+    c ← judge_case i s first p (term_at u) (λ own. judge_term signature (vars ++ own) u)
+    ds ← judge_cases signature vars i s (or_else first (Some (plain_sort c.1))) cs
+    done (c ∷ ds)
 
   -- the attributes of a term; the terms of a :pattern are judged as terms
   pub judge_notes : Signature → List (ℕ × Sort) → PlainTerm → Notes → Judging (List PlainNote)

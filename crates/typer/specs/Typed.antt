@@ -1,18 +1,20 @@
 -- Typed terms with their sorts, and what a world keeps as it makes them.
-use Rattle.std.specs.Prelude.{◌≡◌, ℕ, List, [], ◌∷◌, map}
+use Rattle.std.specs.Prelude.{◌≡◌, ℕ, List, [], ◌∷◌, IfSome, map, option_map}
 use Rattle.sort_store.specs.Tree.{NumberedSort}
 use Rattle.sort_store.specs.Tree as sort_tree
 use Rattle.sort_store.specs.Interned as sorts
 use Rattle.term_store.specs.declared.term.Note.{Note}
-use Rattle.term_store.specs.NumberedNodes.{numbered_note}
+use Rattle.term_store.specs.NumberedNodes.{cases, numbered_note}
 use Rattle.term_store.specs.Term.{tree, note_tree, plain_sort}
 use Rattle.term_store.specs.Interned as terms
 use Rattle.typer.specs.declared.world.World.{World}
 use Rattle.typer.specs.declared.typed.TypedTerm.{TypedTerm}
 use Rattle.typer.specs.declared.typed.TypedTerms.{TypedTerms}
 use Rattle.typer.specs.declared.typed.TypedBinding.{TypedBinding}
+use Rattle.typer.specs.declared.typed.TypedCase.{TypedCase}
+use Rattle.typer.specs.declared.typed.TypedCases.{TypedCases}
 use Rattle.typer.specs.FunctionSymbols.{first_number}
-use Rattle.typer.specs.TermRules.{Binding, PlainNote}
+use Rattle.typer.specs.TermRules.{Binding, Case, PlainNote, first_sort}
 
 -- the world's stores made the term and the sort, which is the term's
 pub record IsTyped (world : World) (typed : TypedTerm) : Type 0 where
@@ -52,6 +54,18 @@ bound_variable b = (b.name, b.value.sort)
 abbrev pub AreTypedBindings : World → List TypedBinding → Type 0
 AreTypedBindings world [] = Unit {0}
 AreTypedBindings world (b ∷ bs) = IsTyped world b.value × AreTypedBindings world bs
+
+-- cases of a match by their trees, and with the sort of the first branch
+abbrev pub case_tree : TypedCase → Case
+case_tree c = (c.pattern, tree c.branch.term)
+
+abbrev pub case_trees : TypedCases → List Case
+case_trees typed = map (λ c. (c.0, tree c.1)) typed.cases.items
+
+pub record AreTypedCases (world : World) (typed : TypedCases) : Type 0 where
+  pub branches : terms.AreCasesInterned world.terms (cases typed.cases.items)
+  pub sort : IfSome typed.sort (sorts.IsInterned world.sorts)
+  pub first : option_map sort_tree.tree typed.sort ≡ first_sort (case_trees typed)
 
 -- an attribute by its trees
 abbrev pub plain_note : Note → PlainNote

@@ -6,8 +6,8 @@ ghost use Rattle.sort_store.specs.Tree.{tree};
 ghost use Rattle.typer.specs.Answers.{Answers, tree_answer, fault_of_store};
 ghost use Rattle.typer.specs.SortRules.{judge_symbol, judge_definition};
 
-use crate::error::{TyError, fault};
 use crate::symbol::has_captured;
+use dt_rules::{TyError, fault};
 use lex_core::{NameId, Names};
 use sig_table::Code;
 use sort_store::{Head, SortError, SortRef, SortStore};

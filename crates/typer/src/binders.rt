@@ -10,11 +10,11 @@ ghost use Rattle.typer.specs.Ready.{IsReady};
 ghost use Rattle.typer.specs.TermRules.{judge_sorted, judge_variables, let_term, quantified};
 ghost use Rattle.typer.specs.Typed.{AreBound, AreTypedBindings, HasGrown, IsTyped, binding_tree, bound_variable};
 
-use crate::error::TyError;
 use crate::made::copy_of;
 use crate::sorts::type_sort;
 use crate::typed::{TypedBinding, TypedTerm, new_term};
 use crate::world::World;
+use dt_rules::TyError;
 use lex_core::NameId;
 use sort_store::{Head, SortRef};
 use std::alloc::Global;

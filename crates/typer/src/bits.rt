@@ -7,10 +7,10 @@ ghost use Rattle.typer.specs.Answers.{Answers, tree_answer};
 ghost use Rattle.typer.specs.BitVectors as spec;
 ghost use Rattle.typer.specs.BitVectors.{judge_bits};
 
-use crate::error::{TyError, fault};
 use crate::made::{constant_sort, has_few_nodes};
 use crate::symbol::text_of;
 use crate::theory::as_asked;
+use dt_rules::{TyError, fault};
 use lex_core::{Names, Tok};
 use sig_table::{Code, NameForm, Theories};
 use sort_store::{Head, SortRef, SortStore};

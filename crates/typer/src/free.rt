@@ -4,7 +4,7 @@ ghost use Rattle.term_store.specs.NumberedNodes.{cases, numbered_note, numbered_
 ghost use Rattle.term_store.specs.Term.{case_trees, note_tree, note_trees, tree, trees};
 ghost use Rattle.typer.specs.FreeVariables as spec;
 
-use crate::error::TyError;
+use dt_rules::TyError;
 use lex_core::NameId;
 use sort_store::SortRef;
 use std::alloc::Global;

@@ -8,16 +8,17 @@ ghost use Rattle.typer.specs.BitVectors.{bits_form as bits_form_of, index_of};
 ghost use Rattle.typer.specs.FunctionSymbols as spec;
 ghost use Rattle.typer.specs.FunctionSymbols.{Function, bits, declared, if_indexed, if_plain, signature_of, theory};
 ghost use Rattle.typer.specs.Ready.{IsReady};
-ghost use Rattle.typer.specs.TermRules.{applied, judge_head, judge_indexed_function, judge_indexed_head};
+ghost use Rattle.typer.specs.TermRules.{applied, judge_head, judge_indexed_function, judge_indexed_head, judge_indexed_theory};
 ghost use Rattle.typer.specs.Typed.{HasGrown};
 
 use crate::bits::{bits_form, bits_sort, indices as indices_of};
-use crate::error::{TyError, fault};
 use crate::live::{is_ambiguous, live_sort};
 use crate::sorts::only_numeral;
 use crate::symbol::{is_text, text_of};
+use crate::tester::tester_head;
 use crate::theory::theory_sort;
 use crate::world::World;
+use dt_rules::{TyError, fault};
 use lex_core::{NameId, Tok};
 use scope_stack::FunEntry;
 use sig_table::{Code, NameForm, Theories};
@@ -232,6 +233,36 @@ fn bits_head(
     }
 }
 
+// The function symbol `( _ name index+ )` of a theory.
+#[tactic(auto, using(crate::proofs::TypedSteps::typed_words))]
+fn theory_head(
+    world: &mut World,
+    at: u32,
+    args: &[SortRef],
+    asked: &Option<SortRef>,
+    name: NameId,
+    indices: &RawIndices,
+) -> Result<TypedHead, TyError>
+    requires ready { IsReady world.old }
+    requires args { AllInterned world.old.sorts args.now }
+    requires asked { IfSome asked.now (IsInterned world.old.sorts) }
+    ensures answer { Answers (head_answer result)
+        (judge_indexed_theory (signature_of world.old) at (map tree args.now) (option_map tree asked.now) name indices.now) }
+    ensures interned { IfOk result (λ h. IsInterned world.new.sorts h.sort) }
+    ensures grown { HasGrown world.old world.new }
+    ensures ready { IsReady world.new }
+{
+    let text = text_of(&world.names, name);
+    if is_indexed(theory_form(world.theories, text)) {
+        return divisible_head(world, at, args, asked, name, indices);
+    }
+    if is_indexed(bits_form(&world.theories, text)) {
+        let toks = tokens_of(world.alloc, indices)?;
+        return bits_head(world, at, args, asked, name, &toks);
+    }
+    Err(fault(Code::UnknownFunction, at))
+}
+
 /// The function symbol `( _ name index+ )`, as `head` gives one without indices.
 #[tactic(auto, using(crate::proofs::TypedSteps::typed_words))]
 pub(crate) fn indexed_head(
@@ -251,13 +282,8 @@ pub(crate) fn indexed_head(
     ensures grown { HasGrown world.old world.new }
     ensures ready { IsReady world.new }
 {
-    let text = text_of(&world.names, name);
-    if is_indexed(theory_form(world.theories, text)) {
-        return divisible_head(world, at, args, asked, name, indices);
+    if is_text(&world.names, name, b"is") {
+        return tester_head(world, at, args, asked, indices);
     }
-    if is_indexed(bits_form(&world.theories, text)) {
-        let toks = tokens_of(world.alloc, indices)?;
-        return bits_head(world, at, args, asked, name, &toks);
-    }
-    Err(fault(Code::UnknownFunction, at))
+    theory_head(world, at, args, asked, name, indices)
 }

@@ -4,7 +4,6 @@
 mod apply;
 mod binders;
 mod bits;
-mod error;
 mod free;
 mod head;
 mod in_use;
@@ -14,15 +13,17 @@ mod made;
 mod names;
 mod notes;
 mod numeral;
+mod patterns;
 mod sorts;
 mod symbol;
 mod terms;
+mod tester;
 mod theory;
 mod typed;
 mod world;
 
 pub use binders::is_bool;
-pub use error::TyError;
+pub use dt_rules::TyError;
 pub use free::has_free_variable;
 pub use in_use::{is_fun_in_use, is_sort_in_use};
 pub use laws::{closed_terms, name_laws, sort_laws, soundness_laws, term_laws};

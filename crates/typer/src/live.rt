@@ -9,8 +9,8 @@ ghost use Rattle.typer.specs.Declarations.{fun_declaration};
 ghost use Rattle.typer.specs.LiveRanks as spec;
 ghost use Rattle.typer.specs.LiveRanks.{AllInternedTogether, IsReadyEntry, judge_live};
 
-use crate::error::{TyError, fault};
 use crate::made::{copy_of, has_few_nodes};
+use dt_rules::{TyError, fault};
 use scope_stack::FunEntry;
 use sig_table::Code;
 use sort_store::{Binding, SortError, SortRef, SortStore, param, same};

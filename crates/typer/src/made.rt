@@ -3,7 +3,7 @@ ghost use Rattle.std.specs.Prelude.{◌≡◌, ◌≤◌, IfErr, IfOk};
 ghost use Rattle.sort_store.specs.Interned.{IsInterned, HasNoRepeats, Grows};
 ghost use Rattle.sort_store.specs.Tree.{node_count, tree, sort, no_sorts};
 
-use crate::error::TyError;
+use dt_rules::TyError;
 use sort_store::{Head, SortRef, SortStore};
 
 /// What a store promises of each sort.

@@ -9,10 +9,10 @@ ghost use Rattle.typer.specs.Ready.{IsReady};
 ghost use Rattle.typer.specs.TermRules.{MayBeNamed, judge_name};
 ghost use Rattle.typer.specs.Typed.{HasElaborated};
 
-use crate::error::{TyError, fault};
 use crate::free::{has_free_variable, is_one_of};
 use crate::in_use::is_fun_in_use;
 use crate::world::World;
+use dt_rules::{TyError, fault};
 use lex_core::{NameId, Tok};
 use sig_table::Code;
 use sort_store::DeclNo;

@@ -7,9 +7,9 @@ ghost use Rattle.typer.specs.Ready.{IsReady};
 ghost use Rattle.typer.specs.TermRules.{annotated_term, attribute_key, attribute_value};
 ghost use Rattle.typer.specs.Typed.{HasGrown, IsTyped, plain_note};
 
-use crate::error::TyError;
 use crate::typed::{TypedTerm, new_term};
 use crate::world::World;
+use dt_rules::TyError;
 use std::alloc::Global;
 use term_grammar::{RawAttribute, RawAttributeKind};
 use term_store::{Note, TermNode};

@@ -9,10 +9,10 @@ ghost use Rattle.typer.specs.Ready.{IsReady, IsReadySchema};
 ghost use Rattle.typer.specs.SortRules.{only_numeral as only_numeral_of, judge_sort, judge_sorts, judge_identifier, judge_name, judge_indexed};
 
 use crate::apply::{definition_sort, symbol_sort};
-use crate::error::{TyError, fault};
 use crate::numeral::numeral_value;
 use crate::symbol::{is_bit_vector, parameter, text_of, theory_symbol};
 use crate::world::World;
+use dt_rules::{TyError, fault};
 use lex_core::{NameId, Tok};
 use scope_stack::SortEntry;
 use sig_table::Code;

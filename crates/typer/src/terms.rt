@@ -1,7 +1,7 @@
 //! The typed terms of terms.
 ghost use Rattle.std.specs.Prelude.{◌≡◌, ◌↔◌, ◌==◌, ◌++◌, ℕ, [], IfErr, IfOk, IfSome, IsTrue, None, map, option_map};
 ghost use Rattle.std.specs.List.{list_any};
-ghost use Rattle.std.specs.Option.{option_copied};
+ghost use Rattle.std.specs.Option.{IsSome, option_copied};
 ghost use Rattle.sort_store.specs.Interned as sorts;
 ghost use Rattle.sort_store.specs.Tree as sort_tree;
 ghost use Rattle.term_store.specs.Interned as terms;
@@ -10,31 +10,34 @@ ghost use Rattle.term_store.specs.NumberedNodes.{numbered_note, numbered_notes};
 ghost use Rattle.term_grammar.specs.Syntax as syntax;
 ghost use Rattle.term_grammar.specs.Syntax.{qualified_at, term_at};
 ghost use Rattle.term_store.specs.Term.{plain_var, tree};
-ghost use Rattle.typer.specs.Answers.{Answers, Meets, asked_answer, bindings_answer, constant_answer, note_answer, notes_answer, term_answer, typed_answer, typed_answers};
-ghost use Rattle.typer.specs.FunctionSymbols.{signature_of};
+ghost use Rattle.typer.specs.Answers.{Answers, Meets, asked_answer, bindings_answer, case_answer, cases_answer, constant_answer, note_answer, notes_answer, term_answer, typed_answer, typed_answers};
+ghost use Rattle.typer.specs.FunctionSymbols.{datatypes_of, signature_of};
+ghost use Rattle.typer.specs.MatchRules.{instance_of};
 ghost use Rattle.typer.specs.Ready.{IsReady};
 ghost use Rattle.typer.specs.TermRules as spec;
-ghost use Rattle.typer.specs.TermRules.{apply_head, judge_application, judge_asked, judge_bindings, judge_constant, judge_indexed_symbol, judge_literal, judge_literal_sort, judge_note, judge_notes, judge_quantifier, judge_symbol, judge_term, judge_terms, judge_variable, judge_variables};
-ghost use Rattle.typer.specs.Typed.{AreBound, AreTyped, AreTypedBindings, HasElaborated, HasGrown, IsTyped};
+ghost use Rattle.typer.specs.TermRules.{apply_head, judge_application, judge_asked, judge_bindings, judge_case, judge_cases, judge_constant, judge_indexed_symbol, judge_literal, judge_literal_sort, judge_note, judge_notes, judge_quantifier, judge_symbol, judge_term, judge_terms, judge_variable, judge_variables};
+ghost use Rattle.typer.specs.Typed.{AreBound, AreTyped, AreTypedBindings, AreTypedCases, HasElaborated, HasGrown, IsTyped};
 
 use crate::binders::{
     is_bool, new_let, new_quantifier, type_variables, with_bindings, with_variables,
 };
-use crate::error::{TyError, fault};
 use crate::head::{TypedHead, head, indexed_head};
 use crate::made::{constant_sort, copy_of};
 use crate::names::name_term;
 use crate::notes::{new_annotation, other_note};
+use crate::patterns::{covered_match, datatype_of, is_branch_sort, typed_pattern};
 use crate::sorts::type_sort;
 use crate::symbol::text_of;
-use crate::typed::{TypedBinding, TypedTerm, TypedTerms, new_term};
+use crate::typed::{TypedBinding, TypedCase, TypedCases, TypedTerm, TypedTerms, new_term};
 use crate::world::World;
+use dt_rules::{TyError, fault};
 use lex_core::{NameId, Tok, TokKind};
 use sig_table::Code;
 use sort_store::{Head, SortRef};
 use term_grammar::{
-    RawBindings, RawIdentifier, RawIdentifierKind, RawIndices, RawNote, RawNoteKind, RawNotes,
-    RawQualified, RawQualifiedKind, RawTerm, RawTermKind, RawTerms, RawVariables,
+    RawBindings, RawCases, RawIdentifier, RawIdentifierKind, RawIndices, RawNote, RawNoteKind,
+    RawNotes, RawPattern, RawQualified, RawQualifiedKind, RawTerm, RawTermKind, RawTerms,
+    RawVariables,
 };
 use term_store::{Note, TermNode, TermRef};
 
@@ -468,6 +471,94 @@ fn elaborate_annotated(
     new_annotation(world, body, notes)
 }
 
+// A case of a match on a term of this sort, after a branch of some sort if there is one before.
+#[cycle(terms)]
+fn elaborate_case(
+    world: &mut World,
+    vars: &[(NameId, SortRef)],
+    sort: &SortRef,
+    first: &Option<SortRef>,
+    pattern: RawPattern,
+    branch: &RawTerm,
+) -> Result<TypedCase, TyError>
+    requires ready { IsReady world.old }
+    requires vars { AreBound world.old vars.now }
+    requires sort { sorts.IsInterned world.old.sorts sort.now }
+    requires first { IfSome first.now (sorts.IsInterned world.old.sorts) }
+    requires instance { IsSome (instance_of (datatypes_of world.old.script) (sort_tree.tree sort.now)) }
+    ensures answer { IfSome (instance_of (datatypes_of world.old.script) (sort_tree.tree sort.now)) (λ i. Meets (case_answer result)
+        (judge_case i (sort_tree.tree sort.now) (option_map sort_tree.tree first.now) pattern.entry (term_at branch.now)
+        (λ own. judge_term (signature_of world.old) (map plain_var vars.now ++ own) branch.now)) world.old.seen.items world.new.seen.items) }
+    ensures typed { IfOk result (λ c. IsTyped world.new c.branch) }
+    ensures grown { HasElaborated world.old world.new }
+    ensures ready { IsReady world.new }
+{
+    let typed = typed_pattern(world, sort, pattern)?;
+    let inner = with_variables(world.alloc, vars, &typed.variables)?;
+    let value = elaborate(world, &inner, branch)?;
+    if !is_branch_sort(first, &value.sort) {
+        return Err(fault(Code::WrongBranchSort, branch.at()));
+    }
+    Ok(TypedCase {
+        pattern: typed.pattern,
+        branch: value,
+    })
+}
+
+// The cases of a match on a term of this sort in order, or the first fault.
+#[cycle(terms)]
+fn elaborate_cases(
+    world: &mut World,
+    vars: &[(NameId, SortRef)],
+    sort: &SortRef,
+    raws: &RawCases,
+) -> Result<TypedCases, TyError>
+    requires ready { IsReady world.old }
+    requires vars { AreBound world.old vars.now }
+    requires sort { sorts.IsInterned world.old.sorts sort.now }
+    requires instance { IsSome (instance_of (datatypes_of world.old.script) (sort_tree.tree sort.now)) }
+    ensures answer { IfSome (instance_of (datatypes_of world.old.script) (sort_tree.tree sort.now)) (λ i. Meets (cases_answer result)
+        (judge_cases (signature_of world.old) (map plain_var vars.now) i (sort_tree.tree sort.now) None raws.now) world.old.seen.items world.new.seen.items) }
+    ensures typed { IfOk result (AreTypedCases world.new) }
+    ensures grown { HasElaborated world.old world.new }
+    ensures ready { IsReady world.new }
+{
+    let mut cases = TypedCases::new(world.alloc);
+    let mut next = raws.split();
+    while let Some((first, rest)) = next {
+        let pattern = first.pattern;
+        let term = first.term;
+        let case = elaborate_case(world, vars, sort, &cases.sort, pattern, &term)?;
+        cases.push(case)?;
+        next = rest.split();
+    }
+    Ok(cases)
+}
+
+// A match, whose list begins at a byte.
+#[cycle(terms)]
+fn elaborate_match(
+    world: &mut World,
+    vars: &[(NameId, SortRef)],
+    at: u32,
+    of: &RawTerm,
+    cases: &RawCases,
+) -> Result<TypedTerm, TyError>
+    requires ready { IsReady world.old }
+    requires vars { AreBound world.old vars.now }
+    ensures answer { Meets (typed_answer result) (judge_term (signature_of world.old) (map plain_var vars.now) (syntax.match_with at of.now cases.now)) world.old.seen.items world.new.seen.items }
+    ensures typed { IfOk result (IsTyped world.new) }
+    ensures grown { HasElaborated world.old world.new }
+    ensures ready { IsReady world.new }
+{
+    let typed = elaborate(world, vars, of)?;
+    if datatype_of(&world.script, &typed.sort).is_none() {
+        return Err(fault(Code::MatchOnNonDatatype, of.at()));
+    }
+    let cases = elaborate_cases(world, vars, &typed.sort, cases)?;
+    covered_match(world, at, typed, cases)
+}
+
 // The typed term of a term, or the first fault.
 #[cycle(terms)]
 fn elaborate(
@@ -494,7 +585,7 @@ fn elaborate(
         RawTermKind::Exists { variables, body } => elaborate_quantifier(
             world, vars, false, &variables, &body,
         ),
-        RawTermKind::Match { .. } => Err(fault(Code::WrongTermForm, at)),
+        RawTermKind::Match { term, cases } => elaborate_match(world, vars, at, &term, &cases),
         RawTermKind::Annotated { term, notes } => elaborate_annotated(world, vars, &term, &notes),
     }
 }

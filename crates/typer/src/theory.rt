@@ -13,8 +13,8 @@ ghost use Rattle.typer.specs.Answers.{Answers, fault_at, tree_answer};
 ghost use Rattle.theory_core.specs.IntsRanks.{ints_symbols};
 ghost use Rattle.typer.specs.FunctionSymbols.{if_present, judge_theory, symbols_past_core};
 
-use crate::error::{TyError, fault};
 use crate::made::{constant_sort, copy_of, has_few_nodes};
+use dt_rules::{TyError, fault};
 use sig_table::{Code, Theories};
 use sort_store::{Head, SortRef, SortStore, same};
 use theory_core::{RankFound, arrays_rank, core_rank, ints_rank, rank_laws};

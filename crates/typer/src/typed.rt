@@ -1,19 +1,20 @@
 //! Typed terms with their sorts, as a world makes them.
-ghost use Rattle.std.specs.Prelude.{◌≡◌, ◌++◌, ◌∷◌, [], IfErr, IfOk, OnOk};
+ghost use Rattle.std.specs.Prelude.{◌≡◌, ◌++◌, ◌∷◌, [], IfErr, IfOk, None, OnOk, Some};
 ghost use Rattle.sort_store.specs.Interned as sorts;
 ghost use Rattle.term_store.specs.Interned.{ArePartsInterned};
 ghost use Rattle.term_store.specs.NumberedNodes.{numbered_node, term_of};
 ghost use Rattle.term_store.specs.Term.{tree};
 ghost use Rattle.typer.specs.Ready.{IsReady};
+ghost use Rattle.typer.specs.SortSymbols.{or_else};
 ghost use Rattle.typer.specs.Typed.{AreTyped, HasGrown, IsTyped};
 
-use crate::error::TyError;
 use crate::made::copy_of;
 use crate::world::World;
+use dt_rules::TyError;
 use lex_core::NameId;
 use sort_store::SortRef;
 use std::alloc::Global;
-use term_store::{TermNode, TermRef};
+use term_store::{Pattern, TermNode, TermRef};
 
 /// A typed term, and its sort as the world's store made it.
 #[derive(Drop)]
@@ -34,6 +35,27 @@ pub(crate) struct TypedTerms {
 pub(crate) struct TypedBinding {
     pub name: NameId,
     pub value: TypedTerm,
+}
+
+/// A pattern of a match, and its variables with their sorts.
+#[derive(Drop)]
+pub(crate) struct TypedPattern {
+    pub pattern: Pattern,
+    pub variables: Vec<(NameId, SortRef)>,
+}
+
+/// A case of a match.
+#[derive(Drop)]
+pub(crate) struct TypedCase {
+    pub pattern: Pattern,
+    pub branch: TypedTerm,
+}
+
+/// Cases of a match, and the sort of the first branch.
+#[derive(Drop)]
+pub(crate) struct TypedCases {
+    pub cases: Vec<(Pattern, TermRef)>,
+    pub sort: Option<SortRef>,
 }
 
 /// The term with this node and this sort.
@@ -85,5 +107,36 @@ impl TypedTerms {
             Ok(()) => Ok(()),
             Err(_) => Err(TyError::NoMemory),
         }
+    }
+}
+
+impl TypedCases {
+    /// No cases.
+    pub fn new(alloc: Global) -> TypedCases
+        ensures cases { result.cases.items ≡ [] }
+        ensures sort { result.sort ≡ None }
+    {
+        TypedCases {
+            cases: Vec::new(alloc),
+            sort: None,
+        }
+    }
+
+    /// Puts a case last.
+    pub fn push(&mut self, case: TypedCase) -> Result<(), TyError>
+        ensures cases { OnOk result (self.new.cases.items ≡ self.old.cases.items ++ (case.pattern, case.branch.term) ∷ []) }
+        ensures sort { OnOk result (self.new.sort ≡ or_else self.old.sort (Some case.branch.sort)) }
+        ensures err { IfErr result (λ e. e ≡ TyError.NoMemory) }
+    {
+        let TypedCase { pattern, branch } = case;
+        let TypedTerm { term, sort } = branch;
+        match self.cases.push((pattern, term)) {
+            Ok(()) => {}
+            Err(_) => return Err(TyError::NoMemory),
+        }
+        if self.sort.is_none() {
+            self.sort = Some(sort);
+        }
+        Ok(())
     }
 }

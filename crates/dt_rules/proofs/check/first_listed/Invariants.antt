@@ -1,6 +1,7 @@
 use Rattle.std.proofs.Common.{map}
-use Rattle.sort_store.specs.Interned.{Grows}
+use Rattle.sort_store.specs.Interned.{Grows, HasNoRepeats}
 use Rattle.sort_store.specs.Tree.{tree}
+use Rattle.term_store.specs.Command.{plain_datatype}
 use Rattle.dt_rules.specs.Judgement.{NoneListed}
 use Rattle.dt_rules.proofs.check.first_listed.Given as goal
 
@@ -8,5 +9,6 @@ use Rattle.dt_rules.proofs.check.first_listed.Given as goal
 abbrev pub invariant-loop-i : goal.invariant-loop-i
 invariant-loop-i l = record {
   grows : Grows l.fn.sorts l.sorts;
-  none : NoneListed l.group (map tree l.unsettled) l.i;
+  distinct : HasNoRepeats l.fn.sorts → HasNoRepeats l.sorts;
+  none : NoneListed (map plain_datatype l.group) (map tree l.unsettled) l.i;
 }

@@ -8,4 +8,5 @@ loop-i-preserved c =
       trees = params_step c.loop-i.params.items c.push.new.self.items c.loop-i.i c.in-Ok.param c.loop-i.invariant.trees c.in-Ok.ensures.tree c.in_ok-push-in-Ok.ensures.items;
       interned = interned_step c.loop-i.sorts c.make.new.self c.loop-i.params.items c.push.new.self.items c.in-Ok.param grown c.loop-i.invariant.interned c.in-Ok.ensures.interned c.in_ok-push-in-Ok.ensures.items;
       grows = grows_more _ _ _ c.loop-i.invariant.grows grown;
+      distinct = λ _. c.make.ensures.distinct;
     }

@@ -1,8 +1,9 @@
-use Rattle.std.proofs.Common.{◌≡◌, ◌<◌, length, get_or, ap, sym, subst, arith}
+use Rattle.std.proofs.Common.{◌≡◌, ◌<◌, length, get_or, ap, sym, subst, arith, map}
 use Rattle.std.proofs.lemmas.List.{length-append}
 use Rattle.sort_store.specs.Interned.{IsInterned}
 use Rattle.sort_store.proofs.GrownStores.{grows_more}
 use Rattle.sort_store.proofs.InstanceLaws.{all_interned_at}
+use Rattle.term_store.specs.Command.{plain_datatype}
 use Rattle.dt_rules.specs.Groups.{known}
 use Rattle.dt_rules.proofs.AddedParts.{closed_none, closed_step, has_members, members_none, unfolds_fail}
 use Rattle.dt_rules.proofs.Gaining.{still_has}
@@ -10,16 +11,17 @@ use Rattle.dt_rules.proofs.group.unfold.Goals as goal
 
 pub returns-in-Err-clause-unfolds : goal.returns-in-Err-clause-unfolds
 returns-in-Err-clause-unfolds c =
-    let group = c.args.group.now in
-    let ts = known c.args.defs.now group in
+    let group = map plain_datatype c.args.group.now in
+    let ts = known (map plain_datatype c.args.defs.now.datatypes) group in
     unfolds_fail ts group _ c.in-Err.error _ _ _ _ (c.in-Err.ensures.gains ts (members_none ts group c.args.sorts.now c.new-list.result.items c.new-list.ensures.items))
 
 pub loop-next-init : goal.loop-next-init
 loop-next-init c =
-    let group = c.args.group.now in
-    let ts = known c.args.defs.now group in
+    let group = map plain_datatype c.args.group.now in
+    let ts = known (map plain_datatype c.args.defs.now.datatypes) group in
     let g = c.in-Ok.ensures.gains ts (members_none ts group c.args.sorts.now c.new-list.result.items c.new-list.ensures.items) in record {
       grows = c.add_own_sorts.ensures.grows;
+      distinct = c.add_own_sorts.ensures.distinct;
       still = g.still;
       own_in = g.has;
       closed = closed_none ts group c.add_own_sorts.new.list.items;
@@ -35,8 +37,8 @@ add_parts-requires-clause-interned c =
 
 pub loop-next-preserved : goal.loop-next-preserved
 loop-next-preserved c =
-    let group = c.args.group.now in
-    let ts = known c.args.defs.now group in
+    let group = map plain_datatype c.args.group.now in
+    let ts = known (map plain_datatype c.args.defs.now.datatypes) group in
     let old = c.loop-next.list.items in
     let new = c.add_parts.new.list.items in
     let copy = c.in-Ok-copy_of.sort in
@@ -44,6 +46,7 @@ loop-next-preserved c =
     let at : copy ≡ get_or old c.loop-next.next copy = subst (λ z. z ≡ get_or old c.loop-next.next z) (sym c.in-Ok-copy_of.ensures.same) c.index.ensures in
     let g = c.in-Ok-add_parts.ensures.gains c.loop-next.invariant.still in record {
       grows = grows_more _ _ _ c.loop-next.invariant.grows c.add_parts.ensures.grows;
+      distinct = λ h. c.add_parts.ensures.distinct (c.loop-next.invariant.distinct h);
       still = g.still;
       own_in = λ s o. still_has ts group old new s g.more (c.loop-next.invariant.own_in s o);
       closed = closed_step ts group old new c.loop-next.next copy g.more inside at c.loop-next.invariant.closed g.has;
@@ -52,6 +55,6 @@ loop-next-preserved c =
 
 pub returns-clause-unfolds : goal.returns-clause-unfolds
 returns-clause-unfolds c =
-    let group = c.args.group.now in
-    let ts = known c.args.defs.now group in
+    let group = map plain_datatype c.args.group.now in
+    let ts = known (map plain_datatype c.args.defs.now.datatypes) group in
     record { listed = c.loop-next.invariant.still; whole = has_members ts group c.loop-next.list.items c.loop-next.next (omega (arith, c.len.ensures, c.loop-next-test.false)) c.loop-next.invariant.own_in c.loop-next.invariant.closed }

@@ -1,7 +1,8 @@
 use Rattle.std.proofs.Common.{◌-◌, ◌≤◌, length, map}
 use Rattle.std.specs.List.{Contains}
-use Rattle.sort_store.specs.Interned.{Grows}
+use Rattle.sort_store.specs.Interned.{Grows, HasNoRepeats}
 use Rattle.sort_store.specs.Tree.{Sort, tree}
+use Rattle.term_store.specs.Command.{plain_datatype}
 use Rattle.dt_rules.specs.Groups.{known, IsOwnSort}
 use Rattle.dt_rules.specs.Worklist.{AreMembers}
 use Rattle.dt_rules.proofs.AddedParts.{IsClosedTo}
@@ -11,9 +12,10 @@ use Rattle.dt_rules.proofs.group.unfold.Given as goal
 abbrev pub invariant-loop-next : goal.invariant-loop-next
 invariant-loop-next l = record {
   grows : Grows l.fn.sorts l.sorts;
-  still : AreMembers (known l.defs l.group) l.group l.sorts l.list.items;
-  own_in : (s : Sort) → IsOwnSort l.group s → Contains (map tree l.list.items) s;
-  closed : IsClosedTo (known l.defs l.group) l.group l.list.items l.next;
+  distinct : HasNoRepeats l.fn.sorts → HasNoRepeats l.sorts;
+  still : AreMembers (known (map plain_datatype l.defs.datatypes) (map plain_datatype l.group)) (map plain_datatype l.group) l.sorts l.list.items;
+  own_in : (s : Sort) → IsOwnSort (map plain_datatype l.group) s → Contains (map tree l.list.items) s;
+  closed : IsClosedTo (known (map plain_datatype l.defs.datatypes) (map plain_datatype l.group)) (map plain_datatype l.group) l.list.items l.next;
   within : l.next ≤ length l.list.items;
 }
 

@@ -1,6 +1,7 @@
 use Rattle.std.proofs.Common.{map, take}
-use Rattle.sort_store.specs.Interned.{AllInterned, Grows}
+use Rattle.sort_store.specs.Interned.{AllInterned, Grows, HasNoRepeats}
 use Rattle.sort_store.specs.Tree.{tree}
+use Rattle.term_store.specs.Command.{plain_constructor}
 use Rattle.dt_rules.specs.Settling.{HasConstructorWithout}
 use Rattle.dt_rules.proofs.settled.has_settled.Given as goal
 
@@ -8,6 +9,7 @@ use Rattle.dt_rules.proofs.settled.has_settled.Given as goal
 abbrev pub invariant-loop-constructor : goal.invariant-loop-constructor
 invariant-loop-constructor l = record {
   grows : Grows l.fn.sorts l.sorts;
+  distinct : HasNoRepeats l.fn.sorts → HasNoRepeats l.sorts;
   interned : AllInterned l.sorts l.args;
-  none : HasConstructorWithout (take l.constructor-index l.constructors) (map tree l.args) (map tree l.unsettled) → ⊥;
+  none : HasConstructorWithout (map plain_constructor (take l.constructor-index l.constructors)) (map tree l.args) (map tree l.unsettled) → ⊥;
 }

@@ -4,6 +4,7 @@ use Rattle.std.specs.List.{Contains}
 use Rattle.sort_store.specs.Interned.{AllInterned}
 use Rattle.sort_store.specs.Tree.{tree}
 use Rattle.sort_store.proofs.GrownStores.{grows_more, all_interned_grown}
+use Rattle.term_store.specs.Command.{plain_datatype}
 use Rattle.dt_rules.specs.Groups.{known}
 use Rattle.dt_rules.specs.Settling.{NoneSettles, SettlesAt}
 use Rattle.dt_rules.proofs.SettledMembers.{never_settled}
@@ -12,10 +13,11 @@ use Rattle.dt_rules.proofs.settled.settle.Goals as goal
 
 pub loop-next-init : goal.loop-next-init
 loop-next-init c =
-    let group = c.args.group.now in
-    let ts = known c.args.defs.now group in
+    let group = map plain_datatype c.args.group.now in
+    let ts = known (map plain_datatype c.args.defs.now.datatypes) group in
     let u = c.requires.unfolding in record {
       grows = c.settling.ensures.grows;
+      distinct = c.settling.ensures.distinct;
       interned = all_interned_grown _ _ _ c.settling.ensures.grows u.listed.interned;
       members = u.listed.members;
       rest = λ s m. inr (u.whole s m);
@@ -37,8 +39,8 @@ settling-requires-in-Some-clause-members c = λ s h.
 
 pub loop-next-preserved : goal.loop-next-preserved
 loop-next-preserved c =
-    let group = c.args.group.now in
-    let ts = known c.args.defs.now group in
+    let group = map plain_datatype c.args.group.now in
+    let ts = known (map plain_datatype c.args.defs.now.datatypes) group in
     let old = c.loop-next.unsettled.items in
     let new = c.remove-settled.new.self.items in
     let i = c.in-Some.i in
@@ -46,6 +48,7 @@ loop-next-preserved c =
     let grown = c.settling-in-Some.ensures.grows in
     let at = subst (λ o. IfSome o (SettlesAt ts group old)) c.in-Some.is c.loop-next.invariant.found in record {
       grows = grows_more _ _ _ c.loop-next.invariant.grows grown;
+      distinct = λ h. c.settling-in-Some.ensures.distinct (c.loop-next.invariant.distinct h);
       interned = all_interned_grown _ _ _ grown (subst (AllInterned c.loop-next.sorts) (sym e) (interned_without c.loop-next.sorts old i c.loop-next.invariant.interned));
       members = λ s h. c.loop-next.invariant.members s (without_contains old i s (subst (λ z. Contains (map tree z) s) e h));
       rest = settled_step ts group old new i e at c.loop-next.invariant.members c.loop-next.invariant.rest;
@@ -55,8 +58,8 @@ loop-next-preserved c =
 
 pub returns-clause-unsettled : goal.returns-clause-unsettled
 returns-clause-unsettled c =
-    let group = c.args.group.now in
-    let ts = known c.args.defs.now group in
+    let group = map plain_datatype c.args.group.now in
+    let ts = known (map plain_datatype c.args.defs.now.datatypes) group in
     let rs = c.loop-next.unsettled.items in
     let stuck = subst (λ o. IfNone o (NoneSettles ts group rs)) c.in_default.is c.loop-next.invariant.none in
     λ s m. (c.loop-next.invariant.rest s m, never_settled ts group rs stuck s)

@@ -1,8 +1,9 @@
-use Rattle.std.proofs.Common.{◌≡◌, map}
+use Rattle.std.proofs.Common.{◌≡◌, length, map}
+use Rattle.term_grammar.specs.Syntax.{each_term}
 use Rattle.term_store.specs.Term.{tree}
 use Rattle.script_core.specs.Checking.{IsReadyScope, environment_of}
 use Rattle.script_core.specs.Effects.{IsSameTo, first_of, seen_by}
-use Rattle.script_core.specs.RuleAnswers.{terms_left, terms_size}
+use Rattle.script_core.specs.RuleAnswers.{terms_left}
 use Rattle.script_core.proofs.TakingTerms.{TermsOnward}
 use Rattle.script_core.proofs.effects.values.Given as goal
 
@@ -17,4 +18,4 @@ invariant-loop-next l = record {
 }
 
 abbrev pub decreases-loop-next : goal.decreases-loop-next
-decreases-loop-next l = terms_size (terms_left l.next)
+decreases-loop-next l = length (each_term (terms_left l.next))

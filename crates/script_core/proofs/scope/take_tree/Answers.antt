@@ -1,7 +1,10 @@
 use Rattle.std.proofs.Common.{◌∙◌}
 use Rattle.script_core.specs.Checking.{environment_of}
 use Rattle.script_core.specs.Effects.{seen_by}
-use Rattle.script_core.proofs.RuleMeanings.{all_kept, some_kept, tree_fault, tree_takes, tree_unused}
+use Rattle.std.proofs.Common.{◌++◌}
+use Rattle.script_core.specs.Keeping.{definitions_in}
+use Rattle.script_core.proofs.ReadyScopes.{script_stands}
+use Rattle.script_core.proofs.RuleMeanings.{all_kept, same_datatypes, some_kept, tree_fault, tree_takes, tree_unused}
 use Rattle.script_core.proofs.scope.take_tree.Goals as goal
 
 pub returns-in-Err-clause-answer : goal.returns-in-Err-clause-answer
@@ -27,3 +30,8 @@ pub returns-clause-script : goal.returns-clause-script
 returns-clause-script c = let mid = c.typed_of.new.scope in
     all_kept c.args.scope.now (environment_of c.args.scope.now.world.names mid) (seen_by mid) c.args.tree.now c.in-Ok.taken c.deref.result.now c.deref.ensures.value c.in-Ok.ensures.answer c.in-Ok.ensures.named
     mid.world.script c.push.new.self c.typed_of.ensures.script (c.in-Err-push.ensures.err ∙ c.in-Ok-keep_definitions.ensures.ok)
+
+pub returns-in-Ok-push-clause-stands : goal.returns-in-Ok-push-clause-stands
+returns-in-Ok-push-clause-stands c = let mid = c.typed_of.new.scope in
+    script_stands mid c.push.new.self (same_datatypes mid.world.script c.keep_definitions.new.script c.push.new.self c.in-Ok.taken.command (definitions_in c.in-Ok.taken.command ++ c.deref.result.now) c.in-Ok-keep_definitions.ensures.ok c.in-Ok-push.ensures.ok)
+    c.typed_of.ensures.stands

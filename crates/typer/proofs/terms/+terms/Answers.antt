@@ -1,24 +1,28 @@
-use Rattle.std.proofs.Common.{◌==◌, ◌++◌, ◌∙◌, [], List, ap, arith, map, Ok, Err, refl, subst, sym}
+use Rattle.std.proofs.Common.{◌≡◌, ◌==◌, ◌++◌, ◌∙◌, [], List, None, ap, arith, map, Ok, Err, refl, subst, sym}
 use Rattle.std.proofs.lemmas.Result.{err_from_is_err_and}
 use Rattle.std.specs.List.{list_any}
-use Rattle.std.specs.Option.{option_map}
+use Rattle.std.specs.Option.{IsSome, option_copied, option_map}
+use Rattle.sort_store.specs.Interned as sorts
 use Rattle.sort_store.specs.Tree as sort_tree
 use Rattle.term_grammar.specs.Syntax.{annotated, let_in, term_at, with_note, with_term}
 use Rattle.term_store.specs.Interned.{AreNotesInterned}
 use Rattle.term_store.specs.NumberedNodes.{numbered_notes}
-use Rattle.term_store.specs.Term.{PlainTerm, plain_var, tree}
-use Rattle.sig_table.specs.declared.code.Code.TheVariants.{WrongTermSort}
-use Rattle.typer.specs.Answers.{Meets, fault_at, note_answer, typed_answer}
-use Rattle.typer.specs.FunctionSymbols.{signature_of}
+use Rattle.term_store.specs.Command.{plain_datatype}
+use Rattle.term_store.specs.Term.{PlainTerm, plain_sort, plain_var, tree}
+use Rattle.sig_table.specs.declared.code.Code.TheVariants.{WrongBranchSort, WrongTermSort}
+use Rattle.typer.specs.Answers.{Answers, Meets, fault_at, note_answer, typed_answer}
+use Rattle.typer.specs.FunctionSymbols.{datatypes_of, signature_of}
+use Rattle.typer.specs.MatchRules.{Instance, IsBranchSort, instance_of, judge_typed_pattern, pattern_variables}
 use Rattle.typer.specs.declared.typed.TypedBinding.{TypedBinding}
-use Rattle.typer.specs.TermRules.{annotated_term, bound_sort, identifier_of, judge_bindings, judge_literal, judge_note, judge_notes, judge_quantifier, judge_constant, judge_term, judge_terms, judge_variables, let_term, quantified}
-use Rattle.typer.specs.Typed.{AreBound, AreTypedBindings, binding_tree, bound_variable, plain_note}
+use Rattle.typer.specs.TermRules.{Case, annotated_term, bound_sort, identifier_of, judge_bindings, judge_case, judge_cases, judge_covered, judge_literal, judge_note, judge_notes, judge_quantifier, judge_constant, judge_term, judge_terms, judge_variables, let_term, quantified}
+use Rattle.typer.specs.Typed.{AreBound, AreTypedBindings, binding_tree, bound_variable, case_tree, case_trees, plain_note}
+use Rattle.typer.proofs.CaseSteps.{at_found, case_branch_fails, case_fails, case_is, case_of_other, case_step, copied_some, found_some, is_some_found, match_cases_fail, match_is, some_by, typed_cases_kept, typed_cases_push}
 use Rattle.typer.proofs.BinderSteps.{annotated_fails, annotated_is, annotation_fails, any_name, binding_fails, binding_repeated, binding_step, inner_variables, let_bindings_fail, let_body_fails, let_is, named_is, other_is, pattern_fails, pattern_is, quantifier_body_fails, quantifier_is, quantifier_of_other, quantifier_variables, quantifier_variables_fail}
 use Rattle.typer.proofs.ListSteps.{leads_end, part_step, part_fault, no_part}
 use Rattle.typer.proofs.SymbolSteps.{applied_is, applied_fails, application_moved, asked_fails, body_moved, made_meets, moved}
 use Rattle.typer.proofs.TermKinds.{of_annotated, of_constant, of_exists, of_forall, of_let, of_qualified}
-use Rattle.typer.proofs.TermSteps.{sizes, bindings_size, notes_size, left, left_is, bindings_left, bindings_left_is, meets, notes_left, notes_left_is, joins_terms, joins_notes, none_left, no_bindings_left, no_notes_left}
-use Rattle.typer.proofs.TypedSteps.{all_typed_kept, asked_kept, bindings_bound, bindings_kept, bindings_push, bound_append, bound_grown, bound_kept, elaborated_grown, elaborated_more, elaborated_signature, notes_kept, notes_push, same_seen, typed_kept, typed_push}
+use Rattle.typer.proofs.TermSteps.{sizes, bindings_size, cases_size, cases_left, cases_left_is, no_cases_left, notes_size, left, left_is, bindings_left, bindings_left_is, meets, notes_left, notes_left_is, joins_terms, joins_notes, none_left, no_bindings_left, no_notes_left}
+use Rattle.typer.proofs.TypedSteps.{all_typed_kept, asked_grown, asked_kept, bindings_bound, bindings_kept, bindings_push, bound_append, bound_grown, bound_kept, elaborated_grown, elaborated_more, elaborated_signature, notes_kept, notes_push, same_script, same_seen, sort_kept, typed_kept, typed_push}
 use Rattle.typer.proofs.terms.+terms.Goals as goal
 
 -- terms in order
@@ -447,3 +451,237 @@ elaborate_quantifier-returns-clause-answer t c =
     (quantifier_variables c.args.vars.now c.in_ok-own.own.items c.deref-2.result.now (c.deref-2.ensures.value ∙ c.in_ok-inner.ensures.ok ∙ ap (λ z. c.args.vars.now ++ z) c.deref.ensures.value))
     (subst (λ z. Meets (Ok u) (judge_term (signature_of c.type_variables.new.world) (map plain_var c.deref-2.result.now) c.args.body.now) z after) (same_seen c.args.world.now c.type_variables.new.world c.in_ok-own.ensures.grown) c.in_ok-typed.ensures.answer))
     (sym c.in_ok-typed.ensures.typed.same ∙ c.if-not-is_bool.ensures.0 refl))
+
+-- a case of a match
+
+pub elaborate_case-elaborate-requires : goal.elaborate_case-elaborate-requires
+elaborate_case-elaborate-requires t c = (
+  omega (arith, c.decreases),
+  (
+    c.in_ok-typed.ensures.ready,
+    subst (AreBound c.typed_pattern.new.world) (sym (c.deref-2.ensures.value ∙ c.in_ok-inner.ensures.ok ∙ ap (λ z. c.args.vars.now ++ z) c.deref.ensures.value))
+        (bound_append c.typed_pattern.new.world c.args.vars.now c.in_ok-typed.typed.variables.items (bound_grown c.args.world.now c.typed_pattern.new.world c.in_ok-typed.ensures.grown c.args.vars.now c.requires.vars) c.in_ok-typed.ensures.bound),
+  ),
+)
+
+pub elaborate_case-returns-in_err-value-clause-answer : goal.elaborate_case-returns-in_err-value-clause-answer
+elaborate_case-returns-in_err-value-clause-answer t c =
+    let p = err_from_is_err_and c.from_residual-in_err-value.result c.from_residual-in_err-value.ensures.1 in
+    let S = signature_of c.args.world.now in
+    let V = map plain_var c.args.vars.now in
+    let s = sort_tree.tree c.args.sort.now in
+    let o = instance_of (datatypes_of c.args.world.now.script) s in
+    let F = option_map sort_tree.tree c.args.first.now in
+    let before = c.args.world.now.seen.items in
+    let after = c.elaborate.new.world.seen.items in
+    rw (p.1, p.2) (
+    some_by o (λ i. Meets {A = Case} (Err c.in_err-value.field-0.0) (judge_case i s F c.args.pattern (term_at c.args.branch.now) (λ own. judge_term S (V ++ own) c.args.branch.now)) before after)
+    (λ i e.
+    case_branch_fails i s F c.args.pattern (term_at c.args.branch.now) (λ own. judge_term S (V ++ own) c.args.branch.now) before c.in_ok-typed.typed.pattern before after
+    (meets (Ok c.in_ok-typed.typed.pattern) (judge_typed_pattern i c.args.pattern) before before refl (at_found o (λ j. Answers (Ok c.in_ok-typed.typed.pattern) (judge_typed_pattern j c.args.pattern)) i e c.in_ok-typed.ensures.answer))
+    c.in_err-value.field-0.0
+    (body_moved c.args.world.now c.typed_pattern.new.world (V ++ pattern_variables i s c.in_ok-typed.typed.pattern) (map plain_var c.deref-2.result.now) c.args.branch.now (Err c.in_err-value.field-0.0) before after
+    (elaborated_grown c.args.world.now c.typed_pattern.new.world c.in_ok-typed.ensures.grown)
+    (quantifier_variables c.args.vars.now c.in_ok-typed.typed.variables.items c.deref-2.result.now (c.deref-2.ensures.value ∙ c.in_ok-inner.ensures.ok ∙ ap (λ z. c.args.vars.now ++ z) c.deref.ensures.value)
+    ∙ ap (λ z. V ++ z) (at_found o (λ j. map plain_var c.in_ok-typed.typed.variables.items ≡ pattern_variables j s c.in_ok-typed.typed.pattern) i e c.in_ok-typed.ensures.variables))
+    (subst (λ z. Meets {A = PlainTerm} (Err c.in_err-value.field-0.0) (judge_term (signature_of c.typed_pattern.new.world) (map plain_var c.deref-2.result.now) c.args.branch.now) z after) (same_seen c.args.world.now c.typed_pattern.new.world c.in_ok-typed.ensures.grown)
+    c.in_err-value.ensures.answer))))
+
+pub elaborate_case-is_branch_sort-requires : goal.elaborate_case-is_branch_sort-requires
+elaborate_case-is_branch_sort-requires t c =
+    some_by c.args.first.now (λ r. sorts.InternedTogether c.in_ok-value.value.sort r) (λ r e. record {
+      store = c.elaborate.new.world.sorts;
+      distinct = c.in_ok-value.ensures.ready.distinct;
+      first = c.in_ok-value.ensures.typed.sort;
+      second = at_found c.args.first.now (sorts.IsInterned c.elaborate.new.world.sorts) r e
+          (asked_kept c.typed_pattern.new.world c.elaborate.new.world c.in_ok-value.ensures.grown c.args.first.now (asked_grown c.args.world.now c.typed_pattern.new.world c.in_ok-typed.ensures.grown c.args.first.now c.requires.first));
+    })
+
+pub elaborate_case-returns-then-not-is_branch_sort-clause-answer :
+    goal.elaborate_case-returns-then-not-is_branch_sort-clause-answer
+elaborate_case-returns-then-not-is_branch_sort-clause-answer t c =
+    let S = signature_of c.args.world.now in
+    let V = map plain_var c.args.vars.now in
+    let s = sort_tree.tree c.args.sort.now in
+    let o = instance_of (datatypes_of c.args.world.now.script) s in
+    let F = option_map sort_tree.tree c.args.first.now in
+    let before = c.args.world.now.seen.items in
+    let after = c.elaborate.new.world.seen.items in
+    rw c.fault.ensures (
+    some_by o (λ i. Meets {A = Case} (Err (fault_at WrongBranchSort c.at.result)) (judge_case i s F c.args.pattern (term_at c.args.branch.now) (λ own. judge_term S (V ++ own) c.args.branch.now)) before after)
+    (λ i e.
+    subst (λ z. Meets {A = Case} (Err (fault_at WrongBranchSort z)) (judge_case i s F c.args.pattern (term_at c.args.branch.now) (λ own. judge_term S (V ++ own) c.args.branch.now)) before after) (sym c.at.ensures)
+    (case_of_other i s F c.args.pattern (term_at c.args.branch.now) (λ own. judge_term S (V ++ own) c.args.branch.now) before c.in_ok-typed.typed.pattern before after
+    (meets (Ok c.in_ok-typed.typed.pattern) (judge_typed_pattern i c.args.pattern) before before refl (at_found o (λ j. Answers (Ok c.in_ok-typed.typed.pattern) (judge_typed_pattern j c.args.pattern)) i e c.in_ok-typed.ensures.answer))
+    (tree c.in_ok-value.value.term)
+    (body_moved c.args.world.now c.typed_pattern.new.world (V ++ pattern_variables i s c.in_ok-typed.typed.pattern) (map plain_var c.deref-2.result.now) c.args.branch.now (Ok (tree c.in_ok-value.value.term)) before after
+    (elaborated_grown c.args.world.now c.typed_pattern.new.world c.in_ok-typed.ensures.grown)
+    (quantifier_variables c.args.vars.now c.in_ok-typed.typed.variables.items c.deref-2.result.now (c.deref-2.ensures.value ∙ c.in_ok-inner.ensures.ok ∙ ap (λ z. c.args.vars.now ++ z) c.deref.ensures.value)
+    ∙ ap (λ z. V ++ z) (at_found o (λ j. map plain_var c.in_ok-typed.typed.variables.items ≡ pattern_variables j s c.in_ok-typed.typed.pattern) i e c.in_ok-typed.ensures.variables))
+    (subst (λ z. Meets (Ok (tree c.in_ok-value.value.term)) (judge_term (signature_of c.typed_pattern.new.world) (map plain_var c.deref-2.result.now) c.args.branch.now) z after) (same_seen c.args.world.now c.typed_pattern.new.world c.in_ok-typed.ensures.grown)
+    c.in_ok-value.ensures.answer))
+    (λ h. (let is = c.is_branch_sort.ensures.1 (subst (IsBranchSort F) (sym c.in_ok-value.ensures.typed.same) h) in cc)))))
+
+pub elaborate_case-returns-clause-answer : goal.elaborate_case-returns-clause-answer
+elaborate_case-returns-clause-answer t c =
+    let S = signature_of c.args.world.now in
+    let V = map plain_var c.args.vars.now in
+    let s = sort_tree.tree c.args.sort.now in
+    let o = instance_of (datatypes_of c.args.world.now.script) s in
+    let F = option_map sort_tree.tree c.args.first.now in
+    let before = c.args.world.now.seen.items in
+    let after = c.elaborate.new.world.seen.items in
+    let q = c.in_ok-typed.typed.pattern in
+    let u = tree c.in_ok-value.value.term in
+    some_by o (λ i. Meets (Ok (q, u)) (judge_case i s F c.args.pattern (term_at c.args.branch.now) (λ own. judge_term S (V ++ own) c.args.branch.now)) before after)
+    (λ i e.
+    case_is i s F c.args.pattern (term_at c.args.branch.now) (λ own. judge_term S (V ++ own) c.args.branch.now) before q before after
+    (meets (Ok q) (judge_typed_pattern i c.args.pattern) before before refl (at_found o (λ j. Answers (Ok q) (judge_typed_pattern j c.args.pattern)) i e c.in_ok-typed.ensures.answer))
+    u
+    (body_moved c.args.world.now c.typed_pattern.new.world (V ++ pattern_variables i s q) (map plain_var c.deref-2.result.now) c.args.branch.now (Ok u) before after
+    (elaborated_grown c.args.world.now c.typed_pattern.new.world c.in_ok-typed.ensures.grown)
+    (quantifier_variables c.args.vars.now c.in_ok-typed.typed.variables.items c.deref-2.result.now (c.deref-2.ensures.value ∙ c.in_ok-inner.ensures.ok ∙ ap (λ z. c.args.vars.now ++ z) c.deref.ensures.value)
+    ∙ ap (λ z. V ++ z) (at_found o (λ j. map plain_var c.in_ok-typed.typed.variables.items ≡ pattern_variables j s q) i e c.in_ok-typed.ensures.variables))
+    (subst (λ z. Meets (Ok u) (judge_term (signature_of c.typed_pattern.new.world) (map plain_var c.deref-2.result.now) c.args.branch.now) z after) (same_seen c.args.world.now c.typed_pattern.new.world c.in_ok-typed.ensures.grown)
+    c.in_ok-value.ensures.answer))
+    (subst (IsBranchSort F) c.in_ok-value.ensures.typed.same (c.is_branch_sort.ensures.0 c.if-not-is_branch_sort.false)))
+
+-- the cases of a match
+
+pub elaborate_cases-elaborate_case-requires : goal.elaborate_cases-elaborate_case-requires
+elaborate_cases-elaborate_case-requires t c = (
+  omega (arith, c.decreases, c.loop-next.invariant.smaller, ap cases_size (ap cases_left c.in-Some.is)),
+  (
+    c.loop-next.invariant.ready,
+    (
+      bound_kept c.args.world.now c.loop-next.world c.loop-next.invariant.grown c.args.vars.now c.requires.vars,
+      (
+        sort_kept c.args.world.now c.loop-next.world c.loop-next.invariant.grown c.args.sort.now c.requires.sort,
+        (
+          c.loop-next.invariant.typed.sort,
+          subst (λ z. IsSome (instance_of (datatypes_of z) (sort_tree.tree c.args.sort.now))) (sym (same_script c.args.world.now c.loop-next.world c.loop-next.invariant.grown)) c.requires.instance,
+        ),
+      ),
+    ),
+  ),
+)
+
+pub elaborate_cases-returns-in_err-case-clause-answer : goal.elaborate_cases-returns-in_err-case-clause-answer
+elaborate_cases-returns-in_err-case-clause-answer t c =
+    let p = err_from_is_err_and c.from_residual.result c.from_residual.ensures.1 in
+    let S = signature_of c.args.world.now in
+    let V = map plain_var c.args.vars.now in
+    let s = sort_tree.tree c.args.sort.now in
+    let o = instance_of (datatypes_of c.args.world.now.script) s in
+    let start = c.args.world.now.seen.items in
+    let so_far = c.loop-next.world.seen.items in
+    let after = c.elaborate_case.new.world.seen.items in
+    let F = option_map sort_tree.tree c.loop-next.cases.sort in
+    let x = c.in-Some.first in
+    rw (p.1, p.2) (
+    some_by o (λ i. Meets {A = List Case} (Err c.in_err-case.field-0.0) (judge_cases S V i s None c.args.raws.now) start after)
+    (λ i e.
+    case_fails S V i s c.args.raws.now (cases_left c.loop-next.next) c.in-Some.rest x.at x.pattern x.term c.loop-next.cases start so_far (ap cases_left c.in-Some.is) (c.loop-next.invariant.onward i e) c.in_err-case.field-0.0 after after
+    (moved (λ z. judge_case i s F x.pattern (term_at x.term) (λ own. judge_term z (V ++ own) x.term)) (Err c.in_err-case.field-0.0) c.args.world.now c.loop-next.world so_far after c.loop-next.invariant.grown
+    (at_found (instance_of (datatypes_of c.loop-next.world.script) s) (λ j. Meets {A = Case} (Err c.in_err-case.field-0.0) (judge_case j s F x.pattern (term_at x.term) (λ own. judge_term (signature_of c.loop-next.world) (V ++ own) x.term)) so_far after) i
+    (ap (λ z. instance_of (datatypes_of z) s) (same_script c.args.world.now c.loop-next.world c.loop-next.invariant.grown) ∙ e) c.in_err-case.ensures.answer))))
+
+pub elaborate_cases-loop-next-preserved : goal.elaborate_cases-loop-next-preserved
+elaborate_cases-loop-next-preserved t c =
+    let S = signature_of c.args.world.now in
+    let V = map plain_var c.args.vars.now in
+    let s = sort_tree.tree c.args.sort.now in
+    let start = c.args.world.now.seen.items in
+    let so_far = c.loop-next.world.seen.items in
+    let after = c.elaborate_case.new.world.seen.items in
+    let F = option_map sort_tree.tree c.loop-next.cases.sort in
+    let x = c.in-Some.first in
+    let rest = cases_left_is _ _ c.split-next-in-Some.ensures in
+    record {
+      onward = λ i e.
+          case_step S V i s c.args.raws.now (cases_left c.loop-next.next) c.in-Some.rest x.at x.pattern x.term c.loop-next.cases start so_far (ap cases_left c.in-Some.is) (c.loop-next.invariant.onward i e) c.elaborate_case.new.world
+          (cases_left c.split-next-in-Some.result) c.push.new.self c.in_ok-case.case after rest c.in_ok-push.ensures.cases c.in_ok-push.ensures.sort c.in_ok-case.ensures.typed
+          (moved (λ z. judge_case i s F x.pattern (term_at x.term) (λ own. judge_term z (V ++ own) x.term)) (Ok (case_tree c.in_ok-case.case)) c.args.world.now c.loop-next.world so_far after c.loop-next.invariant.grown
+          (at_found (instance_of (datatypes_of c.loop-next.world.script) s) (λ j. Meets (Ok (case_tree c.in_ok-case.case)) (judge_case j s F x.pattern (term_at x.term) (λ own. judge_term (signature_of c.loop-next.world) (V ++ own) x.term)) so_far after) i
+          (ap (λ z. instance_of (datatypes_of z) s) (same_script c.args.world.now c.loop-next.world c.loop-next.invariant.grown) ∙ e) c.in_ok-case.ensures.answer));
+      typed = typed_cases_push c.elaborate_case.new.world c.loop-next.cases c.push.new.self c.in_ok-case.case c.in_ok-push.ensures.cases c.in_ok-push.ensures.sort c.in_ok-case.ensures.typed
+          (typed_cases_kept c.loop-next.world c.elaborate_case.new.world c.in_ok-case.ensures.grown c.loop-next.cases c.loop-next.invariant.typed);
+      grown = elaborated_more c.args.world.now c.loop-next.world c.elaborate_case.new.world c.loop-next.invariant.grown c.in_ok-case.ensures.grown;
+      ready = c.in_ok-case.ensures.ready;
+      smaller = omega (arith, c.loop-next.invariant.smaller, ap cases_size (ap cases_left c.in-Some.is), ap cases_size rest);
+    }
+
+pub elaborate_cases-returns-clause-answer : goal.elaborate_cases-returns-clause-answer
+elaborate_cases-returns-clause-answer t c =
+    let S = signature_of c.args.world.now in
+    let V = map plain_var c.args.vars.now in
+    let s = sort_tree.tree c.args.sort.now in
+    let start = c.args.world.now.seen.items in
+    let so_far = c.loop-next.world.seen.items in
+    let F = option_map sort_tree.tree c.loop-next.cases.sort in
+    some_by (instance_of (datatypes_of c.args.world.now.script) s) (λ i. Meets (Ok (case_trees c.loop-next.cases)) (judge_cases S V i s None c.args.raws.now) start so_far)
+    (λ i e.
+    leads_end (judge_cases S V i s None c.args.raws.now) (judge_cases S V i s F (cases_left c.loop-next.next)) (case_trees c.loop-next.cases) start so_far
+    (no_cases_left S V i s F (cases_left c.loop-next.next) (ap cases_left c.in_default.is) so_far) (c.loop-next.invariant.onward i e))
+
+-- a match
+
+pub elaborate_match-elaborate_cases-requires : goal.elaborate_match-elaborate_cases-requires
+elaborate_match-elaborate_cases-requires t c = (
+  omega (arith, c.decreases),
+  (
+    c.in_ok-typed.ensures.ready,
+    (
+      bound_kept c.args.world.now c.elaborate.new.world c.in_ok-typed.ensures.grown c.args.vars.now c.requires.vars,
+      (
+        c.in_ok-typed.ensures.typed.sort,
+        (
+            let f = found_some plain_datatype (λ (i : Instance). i.0) (option_copied c.datatype_of.result) (instance_of (datatypes_of c.elaborate.new.world.script) (sort_tree.tree c.in_ok-typed.typed.sort)) c.datatype_of.ensures (copied_some c.datatype_of.result ∙ c.if-is_none.ensures) in
+            is_some_found (instance_of (datatypes_of c.elaborate.new.world.script) (sort_tree.tree c.in_ok-typed.typed.sort)) f.0 f.1
+            ),
+      ),
+    ),
+  ),
+)
+
+pub elaborate_match-returns-in_err-cases-clause-answer :
+    goal.elaborate_match-returns-in_err-cases-clause-answer
+elaborate_match-returns-in_err-cases-clause-answer t c =
+    let p = err_from_is_err_and c.from_residual-in_err-cases.result c.from_residual-in_err-cases.ensures.1 in
+    let S = signature_of c.args.world.now in
+    let V = map plain_var c.args.vars.now in
+    let mid = c.elaborate.new.world in
+    let s = sort_tree.tree c.in_ok-typed.typed.sort in
+    let v = tree c.in_ok-typed.typed.term in
+    let after = c.elaborate_cases.new.world.seen.items in
+    let f = found_some plain_datatype (λ (i : Instance). i.0) (option_copied c.datatype_of.result) (instance_of (datatypes_of mid.script) s) c.datatype_of.ensures (copied_some c.datatype_of.result ∙ c.if-is_none.ensures) in
+    rw (p.1, p.2) (
+    match_cases_fail S V c.args.at c.args.of.now c.args.cases.now c.args.world.now.seen.items v mid.seen.items c.in_ok-typed.ensures.answer f.0
+    (ap (instance_of S.datatypes) (sym c.in_ok-typed.ensures.typed.same) ∙ sym (ap (λ z. instance_of (datatypes_of z) s) (same_script c.args.world.now mid c.in_ok-typed.ensures.grown)) ∙ f.1) c.in_err-cases.field-0.0 after after
+    (moved (λ z. judge_cases z V f.0 (plain_sort v) None c.args.cases.now) (Err c.in_err-cases.field-0.0) c.args.world.now mid mid.seen.items after c.in_ok-typed.ensures.grown
+    (subst (λ z. Meets {A = List Case} (Err c.in_err-cases.field-0.0) (judge_cases (signature_of mid) V f.0 z None c.args.cases.now) mid.seen.items after) c.in_ok-typed.ensures.typed.same
+    (at_found (instance_of (datatypes_of mid.script) s) (λ i. Meets {A = List Case} (Err c.in_err-cases.field-0.0) (judge_cases (signature_of mid) V i s None c.args.cases.now) mid.seen.items after) f.0 f.1 c.in_err-cases.ensures.answer))))
+
+pub elaborate_match-covered_match-requires-clause-of :
+    goal.elaborate_match-covered_match-requires-clause-of
+elaborate_match-covered_match-requires-clause-of t c = typed_kept c.elaborate.new.world c.elaborate_cases.new.world c.in_ok-cases.ensures.grown c.in_ok-typed.typed c.in_ok-typed.ensures.typed
+
+pub elaborate_match-returns-clause-answer : goal.elaborate_match-returns-clause-answer
+elaborate_match-returns-clause-answer t c =
+    let S = signature_of c.args.world.now in
+    let V = map plain_var c.args.vars.now in
+    let mid = c.elaborate.new.world in
+    let later = c.elaborate_cases.new.world in
+    let s = sort_tree.tree c.in_ok-typed.typed.sort in
+    let v = tree c.in_ok-typed.typed.term in
+    let ds = case_trees c.in_ok-cases.cases in
+    let f = found_some plain_datatype (λ (i : Instance). i.0) (option_copied c.datatype_of.result) (instance_of (datatypes_of mid.script) s) c.datatype_of.ensures (copied_some c.datatype_of.result ∙ c.if-is_none.ensures) in
+    match_is S V c.args.at c.args.of.now c.args.cases.now c.args.world.now.seen.items v mid.seen.items c.in_ok-typed.ensures.answer f.0
+    (ap (instance_of S.datatypes) (sym c.in_ok-typed.ensures.typed.same) ∙ sym (ap (λ z. instance_of (datatypes_of z) s) (same_script c.args.world.now mid c.in_ok-typed.ensures.grown)) ∙ f.1) ds (typed_answer c.covered_match.result)
+    later.seen.items c.covered_match.new.world.seen.items
+    (moved (λ z. judge_cases z V f.0 (plain_sort v) None c.args.cases.now) (Ok ds) c.args.world.now mid mid.seen.items later.seen.items c.in_ok-typed.ensures.grown
+    (subst (λ z. Meets (Ok ds) (judge_cases (signature_of mid) V f.0 z None c.args.cases.now) mid.seen.items later.seen.items) c.in_ok-typed.ensures.typed.same
+    (at_found (instance_of (datatypes_of mid.script) s) (λ i. Meets (Ok ds) (judge_cases (signature_of mid) V i s None c.args.cases.now) mid.seen.items later.seen.items) f.0 f.1 c.in_ok-cases.ensures.answer)))
+    (meets (typed_answer c.covered_match.result) (judge_covered c.args.at f.0.0 v ds) later.seen.items c.covered_match.new.world.seen.items (same_seen later c.covered_match.new.world c.covered_match.ensures.grown)
+    (at_found (instance_of (datatypes_of later.script) s) (λ i. Answers (typed_answer c.covered_match.result) (judge_covered c.args.at i.0 v ds)) f.0
+    (ap (λ z. instance_of (datatypes_of z) s) (same_script mid later c.in_ok-cases.ensures.grown) ∙ f.1) c.covered_match.ensures.answer))

@@ -1,14 +1,17 @@
-use Rattle.std.proofs.Common.{◌≤◌, ◌+◌, suc, map, []}
+use Rattle.std.proofs.Common.{◌≡◌, ◌≤◌, ◌+◌, suc, map, [], None, Some}
+use Rattle.std.specs.Option.{option_map}
+use Rattle.sort_store.specs.Tree as sort_tree
+use Rattle.typer.specs.MatchRules.{Instance, instance_of}
 use Rattle.term_store.specs.Term.{plain_var, tree}
-use Rattle.typer.specs.FunctionSymbols.{signature_of}
+use Rattle.typer.specs.FunctionSymbols.{datatypes_of, signature_of}
 use Rattle.typer.specs.Ready.{IsReady}
 use Rattle.term_store.specs.Interned.{AreNotesInterned}
 use Rattle.term_store.specs.NumberedNodes.{numbered_notes}
 use Rattle.typer.specs.declared.typed.TypedBinding.{TypedBinding}
-use Rattle.typer.specs.TermRules.{judge_bindings, judge_notes, judge_terms}
-use Rattle.typer.specs.Typed.{AreTyped, AreTypedBindings, HasElaborated, binding_tree, plain_note}
+use Rattle.typer.specs.TermRules.{judge_bindings, judge_cases, judge_notes, judge_terms}
+use Rattle.typer.specs.Typed.{AreTyped, AreTypedBindings, AreTypedCases, HasElaborated, binding_tree, case_trees, plain_note}
 use Rattle.typer.proofs.ListSteps.{Leads, Onward}
-use Rattle.typer.proofs.TermSteps.{size, sizes, bindings_size, notes_size, note_size, left, bindings_left, notes_left}
+use Rattle.typer.proofs.TermSteps.{size, sizes, bindings_size, cases_size, notes_size, note_size, left, bindings_left, cases_left, notes_left}
 use Rattle.typer.proofs.terms.+terms.Given as goal
 
 abbrev pub decreases-elaborate : goal.decreases-elaborate
@@ -74,3 +77,26 @@ invariant-elaborate_notes-loop-next l = record {
 
 abbrev pub decreases-elaborate_notes-loop-next : goal.decreases-elaborate_notes-loop-next
 decreases-elaborate_notes-loop-next l = notes_size (notes_left l.next)
+
+abbrev pub decreases-elaborate_match : goal.decreases-elaborate_match
+decreases-elaborate_match l = suc (size l.of.now + cases_size l.cases.now)
+
+abbrev pub decreases-elaborate_case : goal.decreases-elaborate_case
+decreases-elaborate_case l = suc (size l.branch.now)
+
+abbrev pub decreases-elaborate_cases : goal.decreases-elaborate_cases
+decreases-elaborate_cases l = cases_size l.raws.now
+
+abbrev pub invariant-elaborate_cases-loop-next : goal.invariant-elaborate_cases-loop-next
+invariant-elaborate_cases-loop-next l = record {
+  onward : (i : Instance) → instance_of (datatypes_of l.fn.world.script) (sort_tree.tree l.sort) ≡ Some i
+      → Leads (judge_cases (signature_of l.fn.world) (map plain_var l.vars) i (sort_tree.tree l.sort) None l.raws)
+      (judge_cases (signature_of l.fn.world) (map plain_var l.vars) i (sort_tree.tree l.sort) (option_map sort_tree.tree l.cases.sort) (cases_left l.next)) (case_trees l.cases) l.fn.world.seen.items l.world.seen.items;
+  typed : AreTypedCases l.world l.cases;
+  grown : HasElaborated l.fn.world l.world;
+  ready : IsReady l.world;
+  smaller : cases_size (cases_left l.next) ≤ cases_size l.raws;
+}
+
+abbrev pub decreases-elaborate_cases-loop-next : goal.decreases-elaborate_cases-loop-next
+decreases-elaborate_cases-loop-next l = cases_size (cases_left l.next)
