@@ -1,5 +1,8 @@
 pub mod AddedParts
 pub mod CoverageTests
+pub mod DecidedGroups
+pub mod Decisions
+pub mod FirstUnsettled
 pub mod Gaining
 pub mod KnownDatatypes
 pub mod Lists

@@ -22,14 +22,14 @@ without xs i = take i xs ++ drop (suc i) xs
 pub items_without : {X : Type 0} (new old : List X) (i : ℕ) → new ≡ take i old ++ drop (i + 1) old → new ≡ without old i
 items_without new old i e = let same : i + 1 ≡ suc i = omega arith in e ∙ ap (λ z. take i old ++ drop z old) same
 
-cons_cases : {X : Type 0} (x s : X) (xs : List X) → Contains (x ∷ xs) s → (x ≡ s) ⊎ Contains xs s
+pub cons_cases : {X : Type 0} (x s : X) (xs : List X) → Contains (x ∷ xs) s → (x ≡ s) ⊎ Contains xs s
 cons_cases x s xs (zero, l, e) = inl e
 cons_cases x s xs (suc k, l, e) = inr (k, omega (arith, l), e)
 
-here : {X : Type 0} (x s : X) (xs : List X) → x ≡ s → Contains (x ∷ xs) s
+pub here : {X : Type 0} (x s : X) (xs : List X) → x ≡ s → Contains (x ∷ xs) s
 here x s xs e = (0, omega arith, e)
 
-there : {X : Type 0} (x s : X) (xs : List X) → Contains xs s → Contains (x ∷ xs) s
+pub there : {X : Type 0} (x s : X) (xs : List X) → Contains xs s → Contains (x ∷ xs) s
 there x s xs c = (suc c.0, omega (arith, c.1), c.2)
 
 pub interned_without : (store : List Sort) (rs : List NumberedSort) (i : ℕ) → AllInterned store rs → AllInterned store (without rs i)
@@ -70,7 +70,7 @@ settled_step ts group old new i e (r, l, at, settles) members rest s m = elim (r
 
 -- Counting.
 
-length_without : (xs : List Sort) (k : ℕ) → k < length xs → length (without xs k) + 1 ≡ length xs
+pub length_without : {X : Type 0} (xs : List X) (k : ℕ) → k < length xs → length (without xs k) + 1 ≡ length xs
 length_without [] k l = absurd (omega (arith, l))
 length_without (x ∷ xs) zero l = omega arith
 length_without (x ∷ xs) (suc k) l = omega (arith, length_without xs k (omega (arith, l)))
