@@ -12,7 +12,7 @@ pub use check::check_group;
 pub use coverage::covers;
 pub use error::{DtError, TyError, fault};
 pub use group::args_of;
-pub use pattern::{check_pattern, constructor_named};
+pub use pattern::{check_pattern, constructor_named, variables_of};
 
 #[cfg(test)]
 mod tests;

@@ -36,8 +36,9 @@ fn is_repeated(names: &[NameId], name: NameId) -> bool
     names.iter().any(|other| *other == name)
 }
 
-// The names of variables, none of them repeated.
-fn variables_of(alloc: Global, variables: &RawSymbols) -> Result<ListOf<NameId>, TyError>
+/// The names of variables, or of the sort parameters of a datatype (SMT-LIB 2.6, section 4.2.3), none of them repeated. The errors
+/// are the first that is, with its byte, and that memory runs out.
+pub fn variables_of(alloc: Global, variables: &RawSymbols) -> Result<ListOf<NameId>, TyError>
     ensures { Answers result (judge_variables [] variables.now) }
 {
     let mut names: ListOf<NameId> = ListOf::new(alloc);

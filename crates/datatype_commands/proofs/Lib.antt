@@ -1,0 +1,12 @@
+pub mod TakingLists
+pub mod GrownWorlds
+pub mod TakingParts
+pub mod TakingSymbols
+pub mod WholeGroups
+pub mod TakingDatatypes
+pub mod GroupSymbols
+pub mod SoundGroups
+pub mod ReadyGroups
+pub mod LawfulGroups
+pub mod QuietGroups
+pub mod MovedGroups

@@ -1,0 +1,4 @@
+pub mod GroupRules
+pub mod Answers
+pub mod KnownDatatypes
+pub mod DeclaredDatatypes
