@@ -72,16 +72,21 @@ names_in_all ts = joined (map names_in ts)
 abbrev pub of_constructor : PlainDatatype → PlainConstructor → List Declaration
 of_constructor t c = constructor_of t c ∷ map (selector_of t c) c.fields
 
-abbrev pub of_datatype : PlainDatatype → List Declaration
-of_datatype t = datatype t ∷ joined (map (of_constructor t) t.constructors)
+-- the constructors of a datatype, each followed by its selectors
+abbrev pub parts_of : PlainDatatype → List Declaration
+parts_of t = joined (map (of_constructor t) t.constructors)
+
+-- the datatypes that are declared together come first, and then their parts
+abbrev pub of_group : List PlainDatatype → List Declaration
+of_group ts = map datatype ts ++ joined (map parts_of ts)
 
 -- what a command gives numbers to
 abbrev pub declared_by : PlainCommand → List Declaration
 declared_by (command.assert t) = names_in t
 declared_by (command.check_sat_assuming ts) = names_in_all ts
 declared_by (command.declare_const d n s) = function_symbol d n [] s ∷ []
-declared_by (command.declare_datatype t) = of_datatype t
-declared_by (command.declare_datatypes ts) = joined (map of_datatype ts)
+declared_by (command.declare_datatype t) = of_group (t ∷ [])
+declared_by (command.declare_datatypes ts) = of_group ts
 declared_by (command.declare_fun d n args r) = function_symbol d n args r ∷ []
 declared_by (command.declare_sort d n a) = sort_symbol d n a ∷ []
 declared_by (command.define_fun d) = definition d ∷ names_in d.body
