@@ -10,3 +10,4 @@ pub mod ReadyGroups
 pub mod LawfulGroups
 pub mod QuietGroups
 pub mod MovedGroups
+pub mod LiveParts

@@ -1,14 +1,17 @@
 -- What the calls that judge a group of datatypes answer, and what they leave.
 use Rattle.std.specs.Prelude.{◌≡◌, ℕ, ◌<◌, List, [], ◌∷◌, length, Option, Some, None, Result, Ok, Err}
 use Rattle.std.specs.List.{All}
-use Rattle.sort_store.specs.Interned.{Grows}
+use Rattle.sort_store.specs.Interned.{Grows, IsInterned}
+use Rattle.sort_store.specs.Tree.{NumberedSort, Sort, tree}
 use Rattle.cmd_grammar.specs.Commands.{ConstructorDec, DataDec, SortDec}
 use Rattle.cmd_grammar.specs.DeclarationViews.{constructor_dec_seen, selector_seen, sort_dec_seen}
 use Rattle.cmd_grammar.specs.declared.datatype_dec.RawConDec.{RawConDec}
 use Rattle.cmd_grammar.specs.declared.datatype_dec.RawSelector.{RawSelector}
 use Rattle.cmd_grammar.specs.declared.sort_dec.RawSortDec.{RawSortDec}
 use Rattle.term_grammar.specs.Syntax.{SortedSymbol}
+use Rattle.dt_rules.specs.Groups.{own_sort}
 use Rattle.dt_rules.specs.declared.error.TyError.{TyError}
+use Rattle.term_store.specs.Command.{plain_datatype}
 use Rattle.term_store.specs.declared.command.Constructor.{Constructor}
 use Rattle.term_store.specs.declared.command.Datatype.{Datatype}
 use Rattle.term_store.specs.declared.command.Field.{Field}
@@ -66,3 +69,8 @@ sort_decs_left (Some p) = sort_dec_seen p.0 ∷ p.1
 abbrev pub data_decs_left : Option (DataDec × List DataDec) → List DataDec
 data_decs_left None = []
 data_decs_left (Some p) = p.0 ∷ p.1
+
+-- the store has the sort of the datatype at its own parameters
+pub record HoldsOwnSort (store : List Sort) (t : Datatype) (own : NumberedSort) : Type 0 where
+  pub sort : tree own ≡ own_sort (plain_datatype t)
+  pub interned : IsInterned store own

@@ -3,9 +3,11 @@
 
 mod group;
 mod laws;
+mod live;
 mod parts;
 mod symbols;
 
 pub use group::{type_group, type_single};
 pub use laws::group_laws;
+pub use live::declare_parts;
 pub use symbols::{DatatypeSymbol, value_of};

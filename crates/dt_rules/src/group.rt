@@ -143,8 +143,8 @@ fn params_of(alloc: Global, sorts: &mut SortStore, count: u32) -> Result<Vec<Sor
     Ok(params)
 }
 
-// The datatype applied to its own parameters.
-pub(crate) fn own_sort(
+/// The sort of a datatype at its own parameters. The errors are that it has more than 1,000 nodes, and that memory runs out.
+pub fn own_sort(
     alloc: Global,
     sorts: &mut SortStore,
     datatype: &Datatype,
