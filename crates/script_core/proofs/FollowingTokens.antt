@@ -304,7 +304,7 @@ starts c builder logic theories scopes next script read names table stands few =
         ∙ ap (λ (n : ℕ). env_of fixed_texts false core_alone empty empty_script n) next)))));
     interned = subst (λ (s : State). AreInterned c.scope.world.names s.0) (sym builder) tt;
     table = subst (λ (s : State). c.scope.world.names ≡ table_after c.scope.world.names (texts_of c.scope.world.names s.0)) (sym builder) refl;
-    keeps = subst KeepsDefined (sym script) (record { defs = refl; no_datatypes = refl });
+    keeps = subst KeepsDefined (sym script) (record { defs = refl; datatypes = refl });
     stands = stands;
   };
   table = table;

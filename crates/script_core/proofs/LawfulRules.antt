@@ -9,25 +9,26 @@ use Rattle.judgement.specs.Judging.{Outcome, Lawful, well_sorted, ill_sorted}
 use Rattle.judgement.proofs.JudgementLaws.{fault_once, lawful-check, lawful-declare, lawful-done, lawful-find, lawful-refuse, lawful-then, never_both, option_decided, test_decided, value_once, value_or_fault}
 use Rattle.term_grammar.specs.Syntax as syntax
 use Rattle.term_grammar.specs.Syntax.{SortedSymbol, Term, Terms, no_terms, with_term}
-use Rattle.cmd_grammar.specs.Commands.{Command, FunDec, Literal, assert, check_sat_assuming, declare_const, declare_fun, declare_sort, define_fun, define_fun_rec, define_funs_rec, define_sort, echo, exit, get_info, get_option, get_value, pop, push, reset, reset_assertions, set_info, set_logic, set_option}
+use Rattle.cmd_grammar.specs.Commands.{Command, FunDec, Literal, assert, check_sat_assuming, declare_const, declare_datatype, declare_datatypes, declare_fun, declare_sort, define_fun, define_fun_rec, define_funs_rec, define_sort, echo, exit, get_info, get_option, get_value, pop, push, reset, reset_assertions, set_info, set_logic, set_option}
 use Rattle.cmd_grammar.specs.Grammar.{IsGrammarFault, ReadsCommand}
 use Rattle.cmd_grammar.proofs.GrammarAgrees.{one_command, one_of_both, not_both}
 use Rattle.cmd_grammar.proofs.GrammarAgrees as grammar
 use Rattle.typer.proofs.SortLaws.{at_most, lawful-sort, lawful-sorts}
 use Rattle.typer.proofs.TermLaws.{lawful-term, lawful-terms}
+use Rattle.datatype_commands.proofs.LawfulGroups.{lawful-group, lawful-single}
 use Rattle.theory_core.proofs.SortsDecided.{sort_decided}
 use Rattle.sort_store.specs.CoreRanks.{bool}
 use Rattle.sort_store.specs.declared.head.Head.TheVariants as head
 use Rattle.sort_store.specs.Tree.{Sort, sort, no_sorts, more_sorts}
 use Rattle.term_store.specs.Command.{PlainCommand}
 use Rattle.term_store.specs.Command as typed
-use Rattle.logic_frag.specs.FragmentRules.{DefinesRecursively, HasTerm, IsQuantifier}
+use Rattle.logic_frag.specs.FragmentRules.{DeclaresDatatype, DefinesRecursively, HasTerm, IsQuantifier}
 use Rattle.logic_frag.proofs.FoundParts.{has_quantified}
 use Rattle.script_core.specs.RuleAnswers.{is_quantified}
 use Rattle.term_store.specs.Term.{plain_sort}
 use Rattle.script_core.specs.Environment.{Environment, signature_from, signature_in}
 use Rattle.script_core.specs.Numbering.{numbered_sexp}
-use Rattle.script_core.specs.Rules.{Header, declare_each, is_built, judge_body, judge_bool, judge_command, judge_form, judge_fragment, judge_header, judge_headers, judge_literals, judge_member, judge_members, judge_mode, judge_own, judge_params, judge_parts, judge_variable, judge_variables, unchanging, with_header, with_headers}
+use Rattle.script_core.specs.Rules.{Header, declare_each, judge_body, judge_bool, judge_command, judge_fragment, judge_header, judge_headers, judge_literals, judge_member, judge_members, judge_mode, judge_own, judge_params, judge_parts, judge_variable, judge_variables, unchanging, with_header, with_headers}
 use Rattle.script_core.specs.Steps.{ListFault, ListSteps, judge_grammar, judge_list, judge_tree, with_names}
 
 lawful-grammar : (t : Sexp Tok) → Lawful (judge_grammar t)
@@ -47,9 +48,6 @@ lawful-grammar t before = elim (one_of_both t) [
 is_false : (b : Bool) → (b ≡ false) ⊎ ((b ≡ false) → ⊥)
 is_false true = inr (λ e. false≢true (sym e))
 is_false false = inl refl
-
-lawful-form : (at : ℕ) (c : Command) → Lawful (judge_form at c)
-lawful-form at c = lawful-check _ _ _ (test_decided (is_built c))
 
 lawful-mode : (env : Environment) (at : ℕ) (c : Command) → Lawful (judge_mode env at c)
 lawful-mode env at (set_logic n) = lawful-then _ _ (lawful-check _ _ _ (is_false env.logic)) (λ u. lawful-check _ _ _ (test_decided _))
@@ -117,6 +115,8 @@ lawful-parts env at (declare_const n s) =
     lawful-then _ _ (lawful-check _ _ _ (is_false _)) (λ u. lawful-then _ _ (lawful-sort _ _ _ _ s) (λ result. lawful-done _))
 lawful-parts env at (declare_fun n ss s) =
     lawful-then _ _ (lawful-check _ _ _ (is_false _)) (λ u. lawful-then _ _ (lawful-sorts _ _ _ _ ss) (λ args. lawful-then _ _ (lawful-sort _ _ _ _ s) (λ result. lawful-done _)))
+lawful-parts env at (declare_datatype n d) = lawful-then _ _ (lawful-single (signature_in env) at n d) (λ t. lawful-done _)
+lawful-parts env at (declare_datatypes ss ds) = lawful-then _ _ (lawful-group (signature_in env) at ss ds) (λ group. lawful-done _)
 lawful-parts env at (declare_sort n a) =
     lawful-then _ _ (lawful-check _ _ _ (is_false _)) (λ u. lawful-then _ _ (lawful-check _ _ _ (at_most _ _)) (λ v. lawful-done _))
 lawful-parts env at (define_sort n ps s) =
@@ -147,12 +147,18 @@ recursion_decided (typed.define_fun_rec d) false = inr (λ f. false≢true (f tt
 recursion_decided (typed.define_funs_rec ds) false = inr (λ f. false≢true (f tt))
 recursion_decided c false = inl (λ h. absurd h)
 
+datatype_decided : (c : PlainCommand) (b : Bool) → (DeclaresDatatype c → IsTrue b) ⊎ ((DeclaresDatatype c → IsTrue b) → ⊥)
+datatype_decided c true = inl (λ h. refl)
+datatype_decided (typed.declare_datatype t) false = inr (λ f. false≢true (f tt))
+datatype_decided (typed.declare_datatypes ts) false = inr (λ f. false≢true (f tt))
+datatype_decided c false = inl (λ h. absurd h)
+
 lawful-fragment : (env : Environment) (at : ℕ) (c : PlainCommand) → Lawful (judge_fragment env at c)
-lawful-fragment env at c = lawful-then _ _ (lawful-check _ _ _ (quantifier_decided c env.theories.ints)) (λ u. lawful-check _ _ _ (recursion_decided c env.theories.ints))
+lawful-fragment env at c =
+    lawful-then _ _ (lawful-check _ _ _ (quantifier_decided c env.theories.ints)) (λ u. lawful-then _ _ (lawful-check _ _ _ (datatype_decided c env.theories.ints)) (λ v. lawful-check _ _ _ (recursion_decided c env.theories.ints)))
 
 lawful-own : (env : Environment) (at : ℕ) (c : Command) → Lawful (judge_own env at c)
-lawful-own env at c = lawful-then _ _ (lawful-form at c)
-    (λ u. lawful-then _ _ (lawful-mode env at c) (λ v. lawful-then _ _ (lawful-parts env at c) (λ made. lawful-then _ _ (lawful-fragment env at made.0) (λ w. lawful-done _))))
+lawful-own env at c = lawful-then _ _ (lawful-mode env at c) (λ v. lawful-then _ _ (lawful-parts env at c) (λ made. lawful-then _ _ (lawful-fragment env at made.0) (λ w. lawful-done _)))
 
 lawful-command : (env : Environment) (at : ℕ) (c : Command) → Lawful (judge_command env at c)
 lawful-command env at c = lawful-then _ _ (lawful-own env at c) (λ made. lawful-done _)

@@ -2,7 +2,7 @@
 use Rattle.std.proofs.Common.{◌≡◌, ℕ, List, [], ◌∷◌, IsTrue, Some, refl, ap, sym, ◌∙◌, subst}
 use Rattle.judgement.specs.Judging.{◌>>=◌, done, find, well_sorted}
 use Rattle.sig_table.specs.declared.code.Code.TheVariants.{WrongCommandForm}
-use Rattle.cmd_grammar.specs.Commands.{Command, assert, check_sat_assuming, declare_const, declare_fun, declare_sort, define_fun, define_fun_rec, define_funs_rec, define_sort, get_value, pop, push, reset, reset_assertions, set_logic, set_option}
+use Rattle.cmd_grammar.specs.Commands.{Command, assert, check_sat_assuming, declare_const, declare_datatype, declare_datatypes, declare_fun, declare_sort, define_fun, define_fun_rec, define_funs_rec, define_sort, get_value, pop, push, reset, reset_assertions, set_logic, set_option}
 use Rattle.term_store.specs.Command.{PlainCommand}
 use Rattle.script_core.specs.Environment.{Environment}
 use Rattle.script_core.specs.Rules.{Header, judge_mode, judge_parts, named_by, unchanging, with_header, with_headers}
@@ -30,6 +30,8 @@ logic_of_parts env at (assert t) c new first second before after mode (u, betwee
 logic_of_parts env at (check_sat_assuming ls) c new first second before after mode (us, between, h, (e, f)) some = same_logic env new _ c _ e mode.0
 logic_of_parts env at (declare_const n s) c new first second before after mode (w, start, k, (result, later, h, (e, f))) some = no_name env new _ c _ e refl some
 logic_of_parts env at (declare_fun n ss s) c new first second before after mode (w, start, k, (args, between, given, (result, later, h, (e, f)))) some = no_name env new _ c _ e refl some
+logic_of_parts env at (declare_datatype n d) c new first second before after mode (t, start, j, (e, f)) some = no_name env new _ c _ e refl some
+logic_of_parts env at (declare_datatypes ss ds) c new first second before after mode (group, start, j, (e, f)) some = no_name env new _ c _ e refl some
 logic_of_parts env at (declare_sort n a) c new first second before after mode (w, start, k, (v, later, h, (e, f))) some = no_name env new _ c _ e refl some
 logic_of_parts env at (define_sort n ps s) c new first second before after mode (w, start, k, (v, between, apart, (body, later, h, (e, f)))) some = no_name env new _ c _ e refl some
 logic_of_parts env at (define_fun raw) c new first second before after mode (h, start, j, (w, named, declared, (u, later, k, (e, f)))) some = same_logic env new _ c _ e mode.0

@@ -1,4 +1,4 @@
--- The rules on the form and the mode of a command, and on what a definition says before its body, declare no name.
+-- The rules on the mode of a command, and on what a definition says before its body, declare no name.
 use Rattle.std.proofs.Common.{ℕ, List, [], ◌∷◌, ◌++◌}
 use Rattle.judgement.specs.Judging.{DeclaresNone}
 use Rattle.judgement.proofs.NamesKept.{none-check, none-done, none-then}
@@ -9,10 +9,7 @@ use Rattle.cmd_grammar.specs.Commands.{Command, FunDec, echo, exit, get_info, ge
 use Rattle.term_store.specs.Command.{PlainCommand}
 use Rattle.typer.proofs.SortLaws.{none-sort}
 use Rattle.script_core.specs.Environment.{Environment}
-use Rattle.script_core.specs.Rules.{judge_form, judge_fragment, judge_header, judge_headers, judge_mode, judge_variables, with_header}
-
-pub none-form : (at : ℕ) (c : Command) → DeclaresNone (judge_form at c)
-none-form at c = none-check _ _ _
+use Rattle.script_core.specs.Rules.{judge_fragment, judge_header, judge_headers, judge_mode, judge_variables, with_header}
 
 pub none-mode : (env : Environment) (at : ℕ) (c : Command) → DeclaresNone (judge_mode env at c)
 none-mode env at (set_logic n) = none-then _ _ (none-check _ _ _) (λ v. none-check _ _ _)
@@ -42,4 +39,4 @@ none-headers env [] = none-done _
 none-headers env (f ∷ fs) = none-then _ _ (none-header env f.name f.params f.result) (λ h. none-then _ _ (none-headers (with_header env h) fs) (λ hs. none-done _))
 
 pub none-fragment : (env : Environment) (at : ℕ) (c : PlainCommand) → DeclaresNone (judge_fragment env at c)
-none-fragment env at c = none-then _ _ (none-check _ _ _) (λ v. none-check _ _ _)
+none-fragment env at c = none-then _ _ (none-check _ _ _) (λ u. none-then _ _ (none-check _ _ _) (λ v. none-check _ _ _))

@@ -1,5 +1,5 @@
 -- What the rules answer as functions is what the relation of the rules says.
-use Rattle.std.proofs.Common.{◌≡◌, ℕ, ◌+◌, ◌≤◌, nat_le, Bool, true, false, not, ◌&&◌, ◌||◌, ◌==◌, ◌<◌, List, [], ◌∷◌, ◌++◌, length, map, append_assoc, append-nil, Result, Ok, Err, IsTrue, refl, ap, sym, ◌∙◌, subst, inl, inr, arith}
+use Rattle.std.proofs.Common.{◌≡◌, ◌⊎◌, ℕ, zero, suc, ◌+◌, ◌≤◌, nat_le, take, Bool, true, false, not, ◌&&◌, ◌||◌, ◌==◌, ◌<◌, List, [], ◌∷◌, ◌++◌, length, map, append_assoc, append-nil, Result, Ok, Err, IsTrue, refl, ap, sym, ◌∙◌, subst, inl, inr, arith}
 use Rattle.std.specs.Option.{is_some}
 use Rattle.std.proofs.lemmas.Bool.{false≢true, le-leb, leb-true}
 use Rattle.std.proofs.lemmas.List.{length-map, map-append}
@@ -12,15 +12,19 @@ use Rattle.sexp_core.specs.Sexp.{FlatToken, Opening, Closing, Word, Sexp, atom, 
 use Rattle.judgement.specs.Judging.{Judging, Outcome, ◌>>=◌, check, done, ill_sorted, well_sorted}
 use Rattle.term_grammar.specs.declared.words.TheConstants.{GLOBAL_DECLARATIONS}
 use Rattle.term_grammar.specs.Reads.{byte_of}
-use Rattle.term_store.specs.Command.{PlainCommand, PlainDef, plain_command, plain_def}
+use Rattle.term_store.specs.Command.{PlainCommand, PlainDef, plain_command, plain_datatype, plain_def}
 use Rattle.term_store.specs.Command as typed
-use Rattle.term_store.specs.Declarations.{declared_by, declared_in}
+use Rattle.term_store.specs.Declarations.{datatype, declared_by, declared_in, joined, number_given, of_group, parts_of}
+use Rattle.term_store.specs.Definitions.{Definitions}
+use Rattle.term_store.specs.declared.command.Datatype.{Datatype}
+use Rattle.term_store.specs.declared.command.TypedCommand.TheVariants as kept
 use Rattle.term_store.specs.declared.command.Def.{Def}
-use Rattle.logic_frag.specs.FragmentRules.{DefinesRecursively, HasTerm, IsQuantifier}
+use Rattle.logic_frag.specs.FragmentRules.{DeclaresDatatype, DefinesRecursively, HasTerm, IsQuantifier}
 use Rattle.logic_frag.proofs.FoundParts.{has_quantified}
-use Rattle.cmd_grammar.specs.Commands.{Command, FunDec, declare_const, declare_fun, declare_sort, define_fun, define_fun_rec, define_funs_rec, define_sort, echo, exit, get_info, get_option, pop, push, reset, set_info, set_logic, set_option}
+use Rattle.cmd_grammar.specs.Commands.{Command, FunDec, SortDec, declare_const, declare_datatype, declare_datatypes, declare_fun, declare_sort, define_fun, define_fun_rec, define_funs_rec, define_sort, echo, exit, get_info, get_option, pop, push, reset, set_info, set_logic, set_option}
 use Rattle.cmd_grammar.specs.CommandReads.{read_command}
-use Rattle.cmd_grammar.specs.Grammar.{ReadsCommand, ReadsEach, ReadsFunDec}
+use Rattle.cmd_grammar.specs.Grammar.{ReadsCommand, ReadsEach, ReadsFunDec, ReadsSortDec}
+use Rattle.datatype_commands.specs.Answers.{HaveNames}
 use Rattle.cmd_grammar.proofs.GrammarAgrees.{found_fault, found_reads}
 use Rattle.cmd_grammar.specs.CommandAnswers.{Answers as ReadAnswers}
 use Rattle.cmd_grammar.specs.declared.command.GrError.{GrError}
@@ -37,18 +41,19 @@ use Rattle.script_core.specs.Checking.{AnswersTree, TakesTree, environment_of, p
 use Rattle.script_core.specs.Effects.{AreNamed, IsDeclaredNamed, IsInMode, IsSameTo, Meets, MeetsParts}
 use Rattle.script_core.specs.Environment.{Environment, logic_theories, text_of}
 use Rattle.script_core.specs.Interned.{AreInterned}
-use Rattle.script_core.specs.Keeping.{EachUnused, KeepsBelow, KeepsDefined, KeepsEarlier, KeepsPart, defined_in, definitions_in, with_definitions}
-use Rattle.script_core.specs.RuleAnswers.{Answer, answer_form, answer_fragment, answer_mode, both, is_quantified, is_recursive, test}
-use Rattle.script_core.specs.Rules.{is_built, judge_form, judge_fragment, judge_mode, judge_own, judge_parts, named_by, value_of, with_names_given}
+use Rattle.script_core.specs.Keeping.{EachUnused, KeepsBelow, KeepsDefined, KeepsEarlier, KeepsPart, datatypes_in, defined_in, definitions_in, group_in, with_datatypes, with_definitions}
+use Rattle.script_core.specs.RuleAnswers.{Answer, answer_fragment, answer_mode, both, declares_datatype, is_quantified, is_recursive, test}
+use Rattle.script_core.specs.Rules.{judge_fragment, judge_mode, judge_own, judge_parts, named_by, value_of, with_names_given}
 use Rattle.typer.specs.TermRules.{attribute_key}
 use Rattle.typer.specs.FunctionSymbols.{datatypes_of}
 use Rattle.script_core.specs.Steps.{is_exit, judge_own_tree, judge_tree}
-use Rattle.script_core.proofs.KeptNumbers.{each_unused, part_earlier}
+use Rattle.script_core.proofs.KeptNumbers.{each_unused, group_earlier, part_earlier, same_earlier}
 use Rattle.script_core.proofs.NamedLogic.{logic_of_parts}
 use Rattle.script_core.proofs.NamedWalks.{defined_joined}
 use Rattle.script_core.proofs.QuietRules.{none-fragment}
-use Rattle.script_core.proofs.SoundNumbers.{AscendFrom}
-use Rattle.script_core.proofs.StepNumbers.{IsNumberedStep, all_definitions, definitions_ascend, tree_numbered}
+use Rattle.script_core.proofs.SoundNumbers.{AscendFrom, AscendTo, ascend_first, ascend_from}
+use Rattle.script_core.proofs.GroupNumbers.{datatypes_joined, group_declared}
+use Rattle.script_core.proofs.StepNumbers.{IsNumberedStep, all_definitions, declared_split, definitions_ascend, own_by, parts_begin, parts_numbered, tree_numbered}
 
 -- the judgement has this outcome, where no name is declared
 abbrev pub IsMet : {A : Type 0} → Judging A → Result A Place → Type 0
@@ -74,9 +79,6 @@ not_met false rule at = (refl, refl)
 
 most_met : (m n : ℕ) (rule : Code) (at : ℕ) → IsMet (check (m ≤ n) rule at) (test (nat_le m n) rule at)
 most_met m n rule at = test_met (m ≤ n) (nat_le m n) rule at (leb-true m n) (λ e h. false≢true (sym e ∙ le-leb m n h))
-
-form_met : (at : ℕ) (c : Command) → IsMet (judge_form at c) (answer_form at c)
-form_met at c = is_met (is_built c) code.WrongCommandForm at
 
 mode_met : (env : Environment) (at : ℕ) (c : Command) → IsMet (judge_mode env at c) (answer_mode env at c)
 mode_met env at (set_logic n) =
@@ -125,22 +127,35 @@ if_recursive (typed.define_fun_rec d) h = refl
 if_recursive (typed.define_funs_rec ds) h = refl
 if_recursive c h = absurd h
 
+datatype_if : (c : PlainCommand) → IsTrue (declares_datatype c) → DeclaresDatatype c
+datatype_if (typed.declare_datatype t) e = tt
+datatype_if (typed.declare_datatypes ts) e = tt
+datatype_if c e = absurd (false≢true e)
+
+if_datatype : (c : PlainCommand) → DeclaresDatatype c → IsTrue (declares_datatype c)
+if_datatype (typed.declare_datatype t) h = refl
+if_datatype (typed.declare_datatypes ts) h = refl
+if_datatype c h = absurd h
+
 fragment_met : (env : Environment) (at : ℕ) (c : PlainCommand) → IsMet (judge_fragment env at c) (answer_fragment env.theories at c)
 fragment_met env at c =
     let h = has_quantified (is_quantified c) c refl in
-    then_met (check (HasTerm c (λ o. IsQuantifier o.its) → IsTrue env.theories.ints) code.QuantifierOutsideLogic at) (check (DefinesRecursively c → IsTrue env.theories.ints) code.RecursionOutsideLogic at)
-    (test (not (is_quantified c) || env.theories.ints) code.QuantifierOutsideLogic at) (test (not (is_recursive c) || env.theories.ints) code.RecursionOutsideLogic at)
-    (allowed_met (HasTerm c (λ o. IsQuantifier o.its)) (is_quantified c) env.theories.ints code.QuantifierOutsideLogic at h.0 h.1)
-    (allowed_met (DefinesRecursively c) (is_recursive c) env.theories.ints code.RecursionOutsideLogic at (recursive_if c) (if_recursive c))
+    let ints = env.theories.ints in
+    let declaring = check (DeclaresDatatype c → IsTrue ints) code.DatatypeOutsideLogic at in
+    let recursive = check (DefinesRecursively c → IsTrue ints) code.RecursionOutsideLogic at in
+    let declaring_test = test (not (declares_datatype c) || ints) code.DatatypeOutsideLogic at in
+    let recursive_test = test (not (is_recursive c) || ints) code.RecursionOutsideLogic at in
+    then_met (check (HasTerm c (λ o. IsQuantifier o.its) → IsTrue ints) code.QuantifierOutsideLogic at) (declaring >>= λ u. recursive)
+    (test (not (is_quantified c) || ints) code.QuantifierOutsideLogic at) (both declaring_test recursive_test)
+    (allowed_met (HasTerm c (λ o. IsQuantifier o.its)) (is_quantified c) ints code.QuantifierOutsideLogic at h.0 h.1)
+    (then_met declaring recursive declaring_test recursive_test
+    (allowed_met (DeclaresDatatype c) (declares_datatype c) ints code.DatatypeOutsideLogic at (datatype_if c) (if_datatype c))
+    (allowed_met (DefinesRecursively c) (is_recursive c) ints code.RecursionOutsideLogic at (recursive_if c) (if_recursive c)))
 
 -- a logic is set, or none, where the mode is right
 first_right : (r s : Answer) → both r s ≡ Ok tt → r ≡ Ok tt
 first_right (Ok u) s e = refl
 first_right (Err place) s e = cc
-
-second_right : (r s : Answer) → both r s ≡ Ok tt → s ≡ Ok tt
-second_right (Ok u) s e = e
-second_right (Err place) s e = cc
 
 test_right : (b : Bool) (rule : Code) (at : ℕ) → test b rule at ≡ Ok tt → IsTrue b
 test_right true rule at e = refl
@@ -163,8 +178,8 @@ in_mode env at (push n) e = test_right env.logic code.LogicNotSet at (first_righ
 in_mode env at (pop n) e = test_right env.logic code.LogicNotSet at (first_right _ _ e)
 in_mode env at c e = test_right env.logic code.LogicNotSet at e
 
-pub command_in_mode : (env : Environment) (at : ℕ) (c : Command) → both (answer_form at c) (answer_mode env at c) ≡ Ok tt → IsInMode env.logic c
-command_in_mode env at c e = in_mode env at c (second_right (answer_form at c) (answer_mode env at c) e)
+pub command_in_mode : (env : Environment) (at : ℕ) (c : Command) → answer_mode env at c ≡ Ok tt → IsInMode env.logic c
+command_in_mode env at c e = in_mode env at c e
 
 -- the typed command, as it is answered
 abbrev pub typed_in : Environment → TypedCommand → PlainCommand × Environment
@@ -199,22 +214,10 @@ fragment_after env at c names (Err p) h = none-fragment env at c [] (ill_sorted 
 pub tree_no_command : (env new : Environment) (after : List ℕ) (t : Sexp Tok) (e : GrError) (p : Place) → e ≡ grammar.Fault p → ReadAnswers t (Err e) → MeetsOwn env t (Err (error.Broken p)) new after
 tree_no_command env new after t e p is h = inl (found_fault t p (subst (λ (x : GrError). ReadAnswers t (Err x)) is h))
 
--- the tree is read as a command whose form or mode breaks a rule
-pub tree_broken : (env new : Environment) (after : List ℕ) (t : Sexp Tok) (c : Command) (at : ℕ) (p : Place) → read_command t ≡ Ok c → at ≡ byte_of t → both (answer_form at c) (answer_mode env at c) ≡ Err p
-    → MeetsOwn env t (Err (error.Broken p)) new after
+-- the tree is read as a command whose mode breaks a rule
+pub tree_broken : (env new : Environment) (after : List ℕ) (t : Sexp Tok) (c : Command) (at : ℕ) (p : Place) → read_command t ≡ Ok c → at ≡ byte_of t → answer_mode env at c ≡ Err p → MeetsOwn env t (Err (error.Broken p)) new after
 tree_broken env new after t c at p read here says =
-    inr (
-      c,
-      [],
-      (found_reads t c read, refl),
-      first_broken (judge_form (byte_of t) c) (judge_mode env (byte_of t) c) (judge_rest env (byte_of t) c) (answer_form (byte_of t) c) (answer_mode env (byte_of t) c) p
-          (form_met (byte_of t) c) (mode_met env (byte_of t) c) (subst (λ (n : ℕ). both (answer_form n c) (answer_mode env n c) ≡ Err p) here says),
-    )
-  where
-    first_broken : (I J : Judging (Unit {0})) (K : Judging (PlainCommand × Environment)) (r s : Answer) (p : Place) → IsMet I r → IsMet J s → both r s ≡ Err p → (I >>= λ u. J >>= λ v. K) [] (ill_sorted p)
-    first_broken I J K (Ok u) (Ok v) p i j e = cc
-    first_broken I J K (Ok u) (Err x) p i j e = let h : x ≡ p = cc in inr (tt, [], i, inl (subst (λ (y : Place). J [] (ill_sorted y)) h j))
-    first_broken I J K (Err x) s p i j e = let h : x ≡ p = cc in inl (subst (λ (y : Place). I [] (ill_sorted y)) h i)
+    inr (c, [], (found_reads t c read, refl), inl (subst (IsMet (judge_mode env (byte_of t) c)) (subst (λ (n : ℕ). answer_mode env n c ≡ Err p) here says) (mode_met env (byte_of t) c)))
 
 -- the parts of a command, from the scope in which its names are counted
 pub parts_moved : (old here new : Scope) (at : ℕ) (c : Command) (r : Result TypedCommand StepError) (after : List ℕ) → IsSameTo old here → here.world.names ≡ old.world.names
@@ -222,16 +225,14 @@ pub parts_moved : (old here new : Scope) (at : ℕ) (c : Command) (r : Result Ty
 parts_moved old here new at c r after same names h =
     subst (λ (e : Environment). MeetsParts e at c r (environment_of old.world.names new) after) same (subst (λ (ns : List (List ℕ)). MeetsParts (environment_of here.world.names here) at c r (environment_of ns new) after) names h)
 
--- A tree that is read as a command, whose form and mode are right.
-module _ (env new : Environment) (after : List ℕ) (t : Sexp Tok) (c : Command) (at : ℕ) (read : read_command t ≡ Ok c) (here : at ≡ byte_of t) (says : both (answer_form at c) (answer_mode env at c) ≡ Ok tt) where
+-- A tree that is read as a command, whose mode is right.
+module _ (env new : Environment) (after : List ℕ) (t : Sexp Tok) (c : Command) (at : ℕ) (read : read_command t ≡ Ok c) (here : at ≡ byte_of t) (says : answer_mode env at c ≡ Ok tt) where
   command_after : (o : Outcome (PlainCommand × Environment)) → judge_rest env at c [] o → judge_own env at c [] o
-  command_after o rest = met (judge_form at c) (judge_mode env at c) (judge_rest env at c) (answer_form at c) (answer_mode env at c) o (form_met at c) (mode_met env at c) says rest
+  command_after o rest = met o (subst (IsMet (judge_mode env at c)) says (mode_met env at c)) rest
     where
-      met : (I J : Judging (Unit {0})) (K : Judging (PlainCommand × Environment)) (r s : Answer) (o : Outcome (PlainCommand × Environment)) → IsMet I r → IsMet J s → both r s ≡ Ok tt → K [] o → (I >>= λ u. J >>= λ v. K) [] o
-      met I J K (Ok u) (Ok v) (well_sorted x last) i j e k = (tt, [], i, (tt, [], j, k))
-      met I J K (Ok u) (Ok v) (ill_sorted p) i j e k = inr (tt, [], i, inr (tt, [], j, k))
-      met I J K (Ok u) (Err x) o i j e k = cc
-      met I J K (Err x) s o i j e k = cc
+      met : (o : Outcome (PlainCommand × Environment)) → IsMet (judge_mode env at c) (Ok tt) → judge_rest env at c [] o → judge_own env at c [] o
+      met (well_sorted x last) j k = (tt, [], j, k)
+      met (ill_sorted p) j k = inr (tt, [], j, k)
 
   judged_rest : (o : Outcome (PlainCommand × Environment)) → judge_rest env at c [] o → judge_own_tree env t [] o
   judged_rest (well_sorted x last) rest =
@@ -285,7 +286,7 @@ names_under old own new defs shown names effect same =
 
 -- a logic is set where a command names terms
 pub names_logic : (env new : Environment) (t : Sexp Tok) (c : TypedCommand) (after : List ℕ) (named : List Def) → MeetsOwn env t (Ok c) new after → map plain_def named ≡ defined_in (named_by (plain_command c)) → 0 < length named → IsTrue new.logic
-names_logic env new t c after named (raw, between, reads, (u, first, form, (v, second, mode, (made, third, parts, (w, fourth, fragment, (g, i)))))) same some =
+names_logic env new t c after named (raw, first, reads, (v, second, mode, (made, third, parts, (w, fourth, fragment, (g, i))))) same some =
     let command : made.0 ≡ plain_command c = sym (ap (λ (p : PlainCommand × Environment). p.0) g) in
     let env_is : made.1 ≡ new = sym (ap (λ (p : PlainCommand × Environment). p.1) g) in
     subst (λ (e : Environment). IsTrue e.logic) env_is
@@ -299,6 +300,54 @@ tree_fault old after new names t (error.Broken p) h = h
 
 pub no_memory : (old after : Scope) (t : Sexp Tok) (e : StepError) → e ≡ error.NoMemory → AnswersTree old t (Err e) after
 no_memory old after t e is = subst (λ (x : StepError). AnswersTree old t (Err x) after) (sym is) tt
+
+-- A command declares datatypes, and then defines nothing and names no term, or none.
+group_or_none : (c : TypedCommand) → ((definitions_in c ≡ []) × (named_by (plain_command c) ≡ [])) ⊎ (group_in c ≡ [])
+group_or_none (kept.DeclareDatatype t) = inl (refl, refl)
+group_or_none (kept.DeclareDatatypes ts) = inl (refl, refl)
+group_or_none c = inr refl
+
+none_more : (script : Kept) (ts : List Datatype) → ts ≡ [] → with_datatypes script ts ≡ script
+none_more script ts e = ap (with_datatypes script) e ∙ ap (λ ds. record { commands = script.commands; defs = record { defs = script.defs.defs; datatypes = ds } }) (append-nil script.defs.datatypes)
+
+no_part : (script after : Kept) (ds : List Def) → ds ≡ [] → KeepsPart script ds after → after ≡ script
+no_part script after [] e (n, k) = k ∙ (ap (with_definitions script) (take_none n) ∙ ap (λ xs. record { commands = script.commands; defs = record { defs = xs; datatypes = script.defs.datatypes } }) (append-nil script.defs.defs))
+  where
+    take_none : (n : ℕ) → ◌≡◌ {A = List Def} (take n []) []
+    take_none zero = refl
+    take_none (suc n) = refl
+no_part script after (d ∷ ds) e part = cc
+
+-- the datatypes of a command have the next numbers
+numbers_of : (ts : List Datatype) → map number_given (map datatype (map plain_datatype ts)) ≡ map (λ (t : Datatype). t.no.0) ts
+numbers_of [] = refl
+numbers_of (t ∷ ts) = ap (λ ns. t.no.0 ∷ ns) (numbers_of ts)
+
+pub group_ascends : (n : ℕ) (c : TypedCommand) (top : ℕ) → AscendTo n (map number_given (declared_by (plain_command c))) top → AscendFrom n (map (λ (t : Datatype). t.no.0) (group_in c))
+group_ascends n (kept.DeclareDatatype t) top h = (h.0, tt)
+group_ascends n (kept.DeclareDatatypes ts) top h =
+    subst (AscendFrom n) (numbers_of ts) (ascend_first n (map number_given (map datatype (map plain_datatype ts))) (map number_given (joined (map parts_of (map plain_datatype ts))))
+    (subst (AscendFrom n) (map-append number_given (map datatype (map plain_datatype ts)) (joined (map parts_of (map plain_datatype ts)))) (ascend_from n (map number_given (of_group (map plain_datatype ts))) top h)))
+group_ascends n c top h = tt
+
+-- .. also before its named terms are live, so that what is kept of them is kept beside what was kept before
+pub parts_earlier : (env : Environment) (at : ℕ) (raw : Command) (c : TypedCommand) (new : Environment) (after : List ℕ) (old script : Kept) → judge_parts env at raw [] (well_sorted (plain_command c, new) after) → script ≡ with_datatypes old (group_in c)
+    → KeepsEarlier env.next old script
+parts_earlier env at raw c new after old script parts kept = elim (group_or_none c) [
+  | inl none ↦ group_earlier old script (group_in c) env.next
+      (group_ascends env.next c new.next (subst (λ ds. AscendTo env.next (map number_given ds) new.next) (own_declared c none.1) (parts_numbered env at raw (plain_command c) new after parts).ascend)) kept
+  | inr no_group ↦ same_earlier old script env.next (kept ∙ none_more old (group_in c) no_group)
+]
+  where
+    own_declared : (c : TypedCommand) → named_by (plain_command c) ≡ [] → own_by (plain_command c) ≡ declared_by (plain_command c)
+    own_declared c unnamed = sym (declared_split (plain_command c) ∙ (ap (λ ds. own_by (plain_command c) ++ ds) unnamed ∙ append-nil (own_by (plain_command c))))
+
+-- .. by what the whole tree leads to
+pub own_earlier : (env new : Environment) (t : Sexp Tok) (c : TypedCommand) (after : List ℕ) (old script : Kept) → MeetsOwn env t (Ok c) new after → script ≡ with_datatypes old (group_in c) → KeepsEarlier env.next old script
+own_earlier env new t c after old script (raw, first, reads, (v, second, mode, (made, third, parts, (w, fourth, fragment, (g, i))))) kept =
+    let begins = parts_begin env t raw (byte_of t) first second reads mode in
+    let here = subst (λ (ns : List ℕ). judge_parts env (byte_of t) raw ns (well_sorted made third)) begins parts in
+    parts_earlier env (byte_of t) raw c new third old script (subst (λ (p : PlainCommand × Environment). judge_parts env (byte_of t) raw [] (well_sorted p third)) (sym g) here) kept
 
 -- A command that was taken with its named terms.
 module _ (old : Scope) (new : Environment) (names : List ℕ) (t : Sexp Tok) (taken : Taken) (shown : List Def) (seen : shown ≡ taken.named.items) (judged : MeetsTree old t (Ok taken) new names)
@@ -315,15 +364,36 @@ module _ (old : Scope) (new : Environment) (names : List ℕ) (t : Sexp Tok) (ta
   tree_ascends : AscendFrom old.next (map (λ (d : Def). d.no.0) all_defs)
   tree_ascends = definitions_ascend (environment_of old.world.names old) new taken.command shown numbered shown_same
 
+  tree_group_ascends : AscendFrom old.next (map (λ (d : Datatype). d.no.0) (group_in taken.command))
+  tree_group_ascends = group_ascends old.next taken.command new.next numbered.ascend
+
+  -- a command that declares datatypes defines nothing
+  no_defs : definitions_in taken.command ≡ [] → named_by (plain_command taken.command) ≡ [] → all_defs ≡ []
+  no_defs none unnamed = ap (λ ds. ds ++ shown) none ∙ no_shown shown (shown_same ∙ ap defined_in unnamed)
+    where
+      no_shown : (ds : List Def) → map plain_def ds ≡ [] → [] ++ ds ≡ []
+      no_shown [] e = refl
+      no_shown (d ∷ ds) e = cc
+
+  unused_none : (kept : Definitions) (ds : List Def) → ds ≡ [] → EachUnused kept ds
+  unused_none kept [] e = λ i d few at. absurd (omega (arith, few))
+  unused_none kept (d ∷ ds) e = cc
+
   -- nothing is kept yet under the numbers of its definitions
-  pub tree_unused : (script : Kept) → KeepsBelow old.next old.world.script.defs → script ≡ old.world.script → EachUnused script.defs all_defs
-  tree_unused script below kept = subst (λ (k : Kept). EachUnused k.defs all_defs) (sym kept) (each_unused old.world.script.defs all_defs old.next below tree_ascends)
+  pub tree_unused : (script : Kept) → KeepsBelow old.next old.world.script.defs → script ≡ with_datatypes old.world.script (group_in taken.command) → EachUnused script.defs all_defs
+  tree_unused script below kept = elim (group_or_none taken.command) [
+    | inl none ↦ unused_none script.defs all_defs (no_defs none.0 none.1)
+    | inr no_group ↦ subst (λ (k : Kept). EachUnused k.defs all_defs) (sym (kept ∙ none_more old.world.script (group_in taken.command) no_group)) (each_unused old.world.script.defs all_defs old.next below tree_ascends)
+  ]
 
   -- where only some definitions are kept, or all of them, but no command
-  pub some_kept : (script after : Kept) → script ≡ old.world.script → KeepsPart script all_defs after → KeepsEarlier old.next old.world.script after
-  some_kept script after kept part = part_earlier old.world.script after all_defs old.next tree_ascends (subst (λ (k : Kept). KeepsPart k all_defs after) kept part)
+  pub some_kept : (script after : Kept) → script ≡ with_datatypes old.world.script (group_in taken.command) → KeepsPart script all_defs after → KeepsEarlier old.next old.world.script after
+  some_kept script after kept part = elim (group_or_none taken.command) [
+    | inl none ↦ group_earlier old.world.script after (group_in taken.command) old.next tree_group_ascends (no_part script after all_defs (no_defs none.0 none.1) part ∙ kept)
+    | inr no_group ↦ part_earlier old.world.script after all_defs old.next tree_ascends (subst (λ (k : Kept). KeepsPart k all_defs after) (kept ∙ none_more old.world.script (group_in taken.command) no_group) part)
+  ]
 
-  pub all_kept : (script after : Kept) → script ≡ old.world.script → after ≡ with_definitions script all_defs → KeepsEarlier old.next old.world.script after
+  pub all_kept : (script after : Kept) → script ≡ with_datatypes old.world.script (group_in taken.command) → after ≡ with_definitions script all_defs → KeepsEarlier old.next old.world.script after
   all_kept script after kept whole = some_kept script after kept (length all_defs, whole ∙ ap (with_definitions script) (sym (take-length all_defs)))
 
   pub all_defined : map plain_def all_defs ≡ defined_in (declared_by (plain_command taken.command))
@@ -336,14 +406,19 @@ declared_more (d ∷ cs) c = ap (λ ds. declared_by d ++ ds) (declared_more cs c
 defined_more : (cs : List PlainCommand) (c : PlainCommand) → defined_in (declared_in (cs ++ c ∷ [])) ≡ defined_in (declared_in cs) ++ defined_in (declared_by c)
 defined_more cs c = ap defined_in (declared_more cs c) ∙ defined_joined (declared_in cs) (declared_by c)
 
--- the definitions of the commands are kept
-keeps_more : (old kept new : Kept) (c : TypedCommand) (defs : List Def) → map plain_def defs ≡ defined_in (declared_by (plain_command c)) → kept ≡ with_definitions old defs
+datatypes_more : (cs : List PlainCommand) (c : PlainCommand) → datatypes_in (declared_in (cs ++ c ∷ [])) ≡ datatypes_in (declared_in cs) ++ datatypes_in (declared_by c)
+datatypes_more cs c = ap datatypes_in (declared_more cs c) ∙ datatypes_joined (declared_in cs) (declared_by c)
+
+-- the definitions and the datatypes of the commands are kept
+keeps_more : (old kept new : Kept) (c : TypedCommand) (defs : List Def) → map plain_def defs ≡ defined_in (declared_by (plain_command c)) → kept ≡ with_definitions (with_datatypes old (group_in c)) defs
     → new ≡ record { commands = kept.commands ++ c ∷ []; defs = kept.defs } → KeepsDefined old → KeepsDefined new
 keeps_more old kept new c defs own with_own pushed keeps =
+    let later : map plain_command (old.commands ++ c ∷ []) ≡ commands_of old ++ plain_command c ∷ [] = map-append plain_command old.commands (c ∷ []) in
     subst KeepsDefined (sym (pushed ∙ ap (λ (k : Kept). record { commands = k.commands ++ c ∷ []; defs = k.defs }) with_own)) (record {
       defs = map-append plain_def old.defs.defs defs ∙ (ap (λ ds. ds ++ map plain_def defs) keeps.defs
-          ∙ (ap (λ ds. defined_in (declared_in (commands_of old)) ++ ds) own ∙ sym (ap (λ cs. defined_in (declared_in cs)) (map-append plain_command old.commands (c ∷ [])) ∙ defined_more (commands_of old) (plain_command c))));
-      no_datatypes = keeps.no_datatypes;
+          ∙ (ap (λ ds. defined_in (declared_in (commands_of old)) ++ ds) own ∙ sym (ap (λ cs. defined_in (declared_in cs)) later ∙ defined_more (commands_of old) (plain_command c))));
+      datatypes = map-append plain_datatype old.defs.datatypes (group_in c) ∙ (ap (λ ts. ts ++ map plain_datatype (group_in c)) keeps.datatypes
+          ∙ (ap (λ ts. datatypes_in (declared_in (commands_of old)) ++ ts) (group_declared c) ∙ sym (ap (λ cs. datatypes_in (declared_in cs)) later ∙ datatypes_more (commands_of old) (plain_command c))));
     })
 
 -- no datatype comes or goes with the definitions of a command
@@ -352,7 +427,7 @@ same_datatypes old kept new c defs with_own pushed = sym (ap datatypes_of pushed
 
 -- the tree is read as a command, which is put last
 pub tree_takes : (old mid : Scope) (kept after : Kept) (names : List ℕ) (t : Sexp Tok) (taken : Taken) (shown : List Def) (p : Progress) → shown ≡ taken.named.items → MeetsTree old t (Ok taken) (environment_of old.world.names mid) names
-    → map plain_def taken.named.items ≡ defined_in (named_by (plain_command taken.command)) → mid.world.script ≡ old.world.script → kept ≡ with_definitions mid.world.script (definitions_in taken.command ++ shown)
+    → map plain_def taken.named.items ≡ defined_in (named_by (plain_command taken.command)) → mid.world.script ≡ with_datatypes old.world.script (group_in taken.command) → kept ≡ with_definitions mid.world.script (definitions_in taken.command ++ shown)
     → after ≡ record { commands = kept.commands ++ taken.command ∷ []; defs = kept.defs } → p ≡ progress_of (is_exit (plain_command taken.command)) → TakesTree old t p (record mid { world = record mid.world { script = after } })
 tree_takes old mid kept after names t taken shown p seen h named same with_own pushed goes = record {
   command = plain_command taken.command;
@@ -385,6 +460,16 @@ right_interned texts (Opening at ∷ xs) ys h = right_interned texts xs ys h
 right_interned texts (Closing ∷ xs) ys h = right_interned texts xs ys h
 right_interned texts (Word tok ∷ xs) ys h = right_interned texts xs ys h.1
 
+-- the name of a sort symbol that is declared is one of its list
+sort_dec_named : (texts : List (List ℕ)) (t : Sexp Tok) (d : SortDec) → AreInterned texts (flat t) → ReadsSortDec t d → d.name.name < length texts
+sort_dec_named texts t d h r = (subst (λ (x : Sexp Tok). AreInterned texts (flat x)) r.0 h).0
+
+sort_decs_named : (texts : List (List ℕ)) (ts : Sexps Tok) (ds : List SortDec) → AreInterned texts (flat_all ts) → ReadsEach ReadsSortDec ts ds → HaveNames texts ds
+sort_decs_named texts ts [] h r = tt
+sort_decs_named texts ts (d ∷ ds) h (u, us, e, one, others) =
+    let all = subst (λ (x : Sexps Tok). AreInterned texts (flat_all x)) e h in
+    (sort_dec_named texts u d (left_interned texts (flat u) (flat_all us) all) one, sort_decs_named texts us ds (right_interned texts (flat u) (flat_all us) all) others)
+
 -- the name of a function that is declared is one of its list
 dec_named : (texts : List (List ℕ)) (t : Sexp Tok) (f : FunDec) → AreInterned texts (flat t) → ReadsFunDec t f → f.name.name < length texts
 dec_named texts t f h r = (subst (λ (x : Sexp Tok). AreInterned texts (flat x)) r.3 h).0
@@ -401,6 +486,9 @@ group_interned texts at b w ts rest h = left_interned texts (flat_all ts) (Closi
 declared_named : (texts : List (List ℕ)) (t : Sexp Tok) (c : Command) → AreInterned texts (flat t) → ReadsCommand t c → IsDeclaredNamed texts c
 declared_named texts t (declare_const n s) h r = name_begun texts t r.1.0 r.1.1 n _ h r.1.2
 declared_named texts t (declare_fun n ss s) h r = name_begun texts t r.3.0 r.3.1 n _ h r.3.2
+declared_named texts t (declare_datatype n d) h r = name_begun texts t r.1.0 r.1.1 n _ h r.1.2
+declared_named texts t (declare_datatypes ss ds) h r =
+    sort_decs_named texts r.1 ss (group_interned texts r.4.0 r.0 r.4.1 r.1 (cons (list r.2 r.3) nil) (subst (λ (x : Sexp Tok). AreInterned texts (flat x)) r.4.2 h)) r.6
 declared_named texts t (declare_sort n a) h r = name_begun texts t r.0.0 r.0.1 n _ h r.0.2
 declared_named texts t (define_sort n ps s) h r = name_begun texts t r.2.0 r.2.1 n _ h r.2.2
 declared_named texts t (define_fun f) h r = name_begun texts t r.1.0 r.1.1 f.name _ h (r.1.2 ∙ ap (λ (ts : Sexps Tok). list r.1.0 (cons (atom r.1.1) ts)) r.2.4)

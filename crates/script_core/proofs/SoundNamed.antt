@@ -25,14 +25,9 @@ use Rattle.typer.proofs.SoundNames.{AreSoundNames, IsSoundAnywhere}
 use Rattle.script_core.specs.Environment.{Environment, signature_in}
 use Rattle.script_core.specs.Keeping.{defined_in}
 use Rattle.script_core.specs.Rules.{with_name, with_names_given}
-use Rattle.script_core.proofs.KeptNumbers.{IsNoDatatype}
 use Rattle.script_core.proofs.NamedParts.{applies_more}
 use Rattle.script_core.proofs.SoundNumbers.{length-declared}
 use Rattle.script_core.proofs.StepNumbers.{AreNumberedFrom}
-
--- a declaration is sound, and is no datatype
-abbrev pub IsSoundSymbol : List Declaration → Declaration → Type 0
-IsSoundSymbol script d = IsSoundDeclaration script d × IsNoDatatype d
 
 -- the signature is sound, and each live function has a number below the next one
 pub record IsSoundEnv (script : List Declaration) (env : Environment) : Type 0 where
@@ -76,10 +71,10 @@ module _ (script : List Declaration) where
   }
 
   module _ (signature : Signature) where
-    symbols_from : (n : ℕ) (ds : List Declaration) (before after : List ℕ) → n ≤ signature.first + length before → AreNamedAfter signature before ds after → AreGoodNames script n ds → Each (IsSoundSymbol script) ds
+    symbols_from : (n : ℕ) (ds : List Declaration) (before after : List ℕ) → n ≤ signature.first + length before → AreNamedAfter signature before ds after → AreGoodNames script n ds → Each (IsSoundDeclaration script) ds
     symbols_from n [] before after l given good = tt
     symbols_from n (term_name d m t ∷ ds) before after l given good = (
-      (named_def_sound n d m t (omega (arith, l, given.0)) (good.sound d m t (first_in (term_name d m t) ds)) (good.lower d m t (first_in (term_name d m t) ds)), tt),
+      named_def_sound n d m t (omega (arith, l, given.0)) (good.sound d m t (first_in (term_name d m t) ds)) (good.lower d m t (first_in (term_name d m t) ds)),
       symbols_from n ds (before ++ m ∷ []) after (omega (arith, l, length-append before (m ∷ []))) given.1 (rest_of n (term_name d m t) ds good),
     )
     symbols_from n (sort_symbol d m a ∷ ds) before after l given good = absurd given.0
@@ -89,8 +84,8 @@ module _ (script : List Declaration) where
     symbols_from n (selector_of t c f ∷ ds) before after l given good = absurd given.0
     symbols_from n (definition d ∷ ds) before after l given good = absurd given.0
 
-  -- the named terms of a command are sound symbols
-  pub names_symbols : (n : ℕ) (ds : List Declaration) → AreNumberedFrom n ds → AreGoodNames script n ds → Each (IsSoundSymbol script) ds
+  -- the named terms of a command are sound declarations
+  pub names_symbols : (n : ℕ) (ds : List Declaration) → AreNumberedFrom n ds → AreGoodNames script n ds → Each (IsSoundDeclaration script) ds
   names_symbols n ds h good = symbols_from h.signature n ds h.before h.after (omega (arith, h.counts)) h.given good
 
   no_values : (result : Sort) (values : List Sort) → length values ≡ 0 → inst values result ≡ result

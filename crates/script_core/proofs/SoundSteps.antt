@@ -18,12 +18,12 @@ use Rattle.scope_stack.specs.declared.entry.FunKind.TheVariants as kind
 use Rattle.term_grammar.specs.declared.words.TheConstants.{GLOBAL_DECLARATIONS}
 use Rattle.term_grammar.specs.Syntax as syntax
 use Rattle.term_grammar.specs.Syntax.{Attribute, SortedSymbol, Term, Terms, keyword_attribute, no_terms, valued_attribute, with_term}
-use Rattle.cmd_grammar.specs.Commands.{Command, FunDec, Literal, assert, check_sat, check_sat_assuming, declare_const, declare_fun, declare_sort, define_fun, define_fun_rec, define_funs_rec, define_sort, echo, exit, get_assertions, get_assignment, get_info, get_model, get_option, get_proof, get_unsat_assumptions, get_unsat_core, get_value, pop, push, reset, reset_assertions, set_info, set_logic, set_option}
+use Rattle.cmd_grammar.specs.Commands.{Command, FunDec, Literal, assert, check_sat, check_sat_assuming, declare_const, declare_datatype, declare_datatypes, declare_fun, declare_sort, define_fun, define_fun_rec, define_funs_rec, define_sort, echo, exit, get_assertions, get_assignment, get_info, get_model, get_option, get_proof, get_unsat_assumptions, get_unsat_core, get_value, pop, push, reset, reset_assertions, set_info, set_logic, set_option}
 use Rattle.cmd_grammar.specs.DeclarationViews.{literal_term}
-use Rattle.term_store.specs.Command.{PlainCommand, PlainDef}
+use Rattle.term_store.specs.Command.{PlainCommand, PlainDatatype, PlainDef}
 use Rattle.term_store.specs.Command as typed
-use Rattle.term_store.specs.Declarations.{Declaration, declared_by, definition, function_symbol, names_in, names_in_all, number_given}
-use Rattle.term_store.specs.SoundScript.{IsSoundCommand, IsSoundDef, IsSoundIn, KeepsLevels}
+use Rattle.term_store.specs.Declarations.{Declaration, declared_by, definition, function_symbol, names_in, names_in_all, number_given, of_group}
+use Rattle.term_store.specs.SoundScript.{IsSoundCommand, IsSoundDatatype, IsSoundDeclaration, IsSoundDef, IsSoundIn, KeepsLevels}
 use Rattle.term_store.specs.SoundTerms.{AppliesBelow, AreDistinct, AreSoundVars, HasRankAt, IsSoundSort}
 use Rattle.term_store.specs.Term.{PlainTerm, plain_sort}
 use Rattle.typer.proofs.LiveDeclarations.{Each, all_of_each, each_closed, each_declared, each_global, each_of_all, each_opened}
@@ -37,11 +37,13 @@ use Rattle.typer.proofs.SoundTerms.{sound_term}
 use Rattle.typer.specs.Declarations.{Declarations, FunDeclaration, SortDeclaration, defined_sort, depth, free_sort, with_fun, with_global, with_popped, with_pushed, with_sort, without_assertions}
 use Rattle.typer.specs.Soundness.{HasSoundSorts, IsSoundFunction, IsSoundSignature, IsSoundSortSymbol}
 use Rattle.script_core.specs.Environment.{Environment, signature_from, signature_in, start as start_env, theories_of}
-use Rattle.script_core.specs.Rules.{Header, after_option, defined, is_true, judge_body, judge_bool, judge_header, judge_headers, judge_literals, judge_members, judge_mode, judge_parts, judge_variables, named_by, next_number, unchanging, value_of, with_defined_sort, with_free_sort, with_function, with_header, with_headers}
+use Rattle.script_core.specs.Rules.{Header, after_option, defined, is_true, judge_body, judge_bool, judge_header, judge_headers, judge_literals, judge_members, judge_mode, judge_parts, judge_variables, named_by, next_number, unchanging, value_of, with_defined_sort, with_free_sort, with_function, with_group, with_header, with_headers}
 use Rattle.typer.specs.TermRules.{attribute_key, attribute_value}
 use Rattle.script_core.proofs.ApartNames.{variables_apart}
+use Rattle.script_core.proofs.GroupNumbers.{AreCounted, group_counted, single_counted}
 use Rattle.script_core.proofs.NamedParts.{applies_more, names_below}
-use Rattle.script_core.proofs.SoundNamed.{AreGoodNames, IsSoundEnv, IsSoundSymbol, good_as, no_names}
+use Rattle.script_core.proofs.SoundGroupSteps.{DeclaresGroup, judged_single_sound, judged_sound, of_group_depth, of_group_live, of_group_sound}
+use Rattle.script_core.proofs.SoundNamed.{AreGoodNames, IsSoundEnv, good_as, no_names}
 use Rattle.script_core.proofs.SoundNumbers.{length-closed, length-declared, length-opened}
 use Rattle.script_core.proofs.StepNumbers.{AreMembers, members_are, own_by}
 
@@ -49,7 +51,7 @@ use Rattle.script_core.proofs.StepNumbers.{AreMembers, members_are, own_by}
 pub record IsSoundStep (script : List Declaration) (env : Environment) (c : PlainCommand) (after : Environment) : Type 0 where
   pub leads : IsSoundEnv script after
   pub levels : (cs : List PlainCommand) → KeepsLevels (depth after.declarations) cs → KeepsLevels (depth env.declarations) (c ∷ cs)
-  pub declarations : Each (IsSoundSymbol script) (own_by c)
+  pub declarations : Each (IsSoundDeclaration script) (own_by c)
   pub names : AreGoodNames script after.next (named_by c)
   pub command : IsSoundCommand script c
 
@@ -164,9 +166,9 @@ members_sound script first env sound at n (h ∷ hs) (with_term t ts) ds before 
       good_append script env.next (names_in d.body) (names_in_all (map (λ (x : PlainDef). x.body) rest)) (good_as script env.next (names_in u) (names_in d.body) (ap (λ (x : PlainDef). names_in x.body) e) own) others.1,
     )
 
-symbols_of : (script : List Declaration) (ds : List PlainDef) → Each (IsSoundDef script) ds → Each (IsSoundSymbol script) (map definition ds)
+symbols_of : (script : List Declaration) (ds : List PlainDef) → Each (IsSoundDef script) ds → Each (IsSoundDeclaration script) (map definition ds)
 symbols_of script [] h = tt
-symbols_of script (d ∷ ds) h = ((h.0, tt), symbols_of script ds h.1)
+symbols_of script (d ∷ ds) h = (h.0, symbols_of script ds h.1)
 
 -- the script declares each of them
 abbrev DeclaresEach : List Declaration → List PlainDef → Type 0
@@ -211,7 +213,7 @@ module _ (script : List Declaration) (env : Environment) (sound : IsSoundEnv scr
   quiet c after leads levels none names command = record {
     leads = leads;
     levels = levels;
-    declarations = none_of (IsSoundSymbol script) (own_by c) none;
+    declarations = none_of (IsSoundDeclaration script) (own_by c) none;
     names = names;
     command = command;
   }
@@ -244,12 +246,12 @@ module _ (script : List Declaration) (env : Environment) (sound : IsSoundEnv scr
 
   -- a function symbol takes the next number
   function_step : (c : PlainCommand) (name : ℕ) (args : List Sort) (result : Sort) (its : Declaration) → own_by c ≡ its ∷ [] → AreGoodNames script (env.next + 1) (named_by c) → All (IsSoundSort script 0) args → IsSoundSort script 0 result
-      → number_given its ≡ env.next → ((values : List Sort) → length values ≡ 0 → HasRankAt its values (map (inst values) args) (inst values result)) → IsSoundSymbol script its
+      → number_given its ≡ env.next → ((values : List Sort) → length values ≡ 0 → HasRankAt its values (map (inst values) args) (inst values result)) → IsSoundDeclaration script its
       → ((cs : List PlainCommand) (n : ℕ) → KeepsLevels n cs → KeepsLevels n (c ∷ cs)) → IsSoundCommand script c → Contains script its → IsSoundStep script env c (with_function env name args result)
   function_step c name args result its is names args_sound result_sound number ranks symbol same command declared = record {
     leads = function_declared name args result its args_sound result_sound declared number ranks;
     levels = λ cs h. same cs (depth env.declarations) (subst (λ (n : ℕ). KeepsLevels n cs) (length-declared env.declarations.global _ env.declarations.funs) h);
-    declarations = subst (λ (l : List Declaration). Each (IsSoundSymbol script) l) (sym is) (symbol, tt);
+    declarations = subst (λ (l : List Declaration). Each (IsSoundDeclaration script) l) (sym is) (symbol, tt);
     names = names;
     command = command;
   }
@@ -260,14 +262,14 @@ module _ (script : List Declaration) (env : Environment) (sound : IsSoundEnv scr
       → IsSoundStep script env c (with_function env name args result)
   symbol_step c name args result is none args_sound result_sound same command declared =
       function_step c name args result (function_symbol (next_number env) name args result) is (good_as script (env.next + 1) [] (named_by c) none (no_names script (env.next + 1))) args_sound result_sound refl
-      (λ values e. function_ranks args result values e) ((args_sound, result_sound), tt) same command declared
+      (λ values e. function_ranks args result values e) (args_sound, result_sound) same command declared
 
   -- a sort symbol takes the next number
   free_sort_step : (name arity : ℕ) → IsSoundStep script env (typed.declare_sort (next_number env) name arity) (with_free_sort env name arity)
   free_sort_step name arity = record {
     leads = sort_declared (env.next + 1) name (free_sort (next_number env) arity) (omega arith) tt;
     levels = λ cs h. h;
-    declarations = ((tt, tt), tt);
+    declarations = (tt, tt);
     names = no_names script (env.next + 1);
     command = tt;
   }
@@ -376,7 +378,7 @@ module _ (script : List Declaration) (env : Environment) (sound : IsSoundEnv scr
       → ((cs : List PlainCommand) (n : ℕ) → KeepsLevels n cs → KeepsLevels n (c ∷ cs)) → IsSoundCommand script c → IsSoundDef script (defined h recursive u) → Contains script (definition (defined h recursive u)) → IsSoundStep script env c (with_header env h)
   definition_step c h recursive u is names head number same command def declared =
       function_step c h.name (map (λ v. v.1) h.params) h.result (definition (defined h recursive u)) is names
-      (all_of_each (IsSoundSort script 0) _ (var_sorts h.params head.params)) head.result (ap (λ (n : DeclNo). n.0) number) (defined_ranks h recursive u) (def, tt) same command declared
+      (all_of_each (IsSoundSort script 0) _ (var_sorts h.params head.params)) head.result (ap (λ (n : DeclNo). n.0) number) (defined_ranks h recursive u) def same command declared
 
   is_same : (c d : PlainCommand) → Some c ≡ Some d → IsSoundStep script env c env → IsSoundStep script env d env
   is_same c d e h = let same : c ≡ d = cc in subst (λ (x : PlainCommand). IsSoundStep script env x env) same h
@@ -422,6 +424,18 @@ module _ (script : List Declaration) (env : Environment) (sound : IsSoundEnv scr
         command = tt;
       }
 
+  -- the datatypes of a group, with their constructors and selectors, are live
+  of_group_step : (c : PlainCommand) (group : List PlainDatatype) → own_by c ≡ of_group group → named_by c ≡ [] → ((cs : List PlainCommand) (n : ℕ) → KeepsLevels n cs → KeepsLevels n (c ∷ cs)) → IsSoundCommand script c
+      → AreCounted env.next (of_group group) → DeclaresGroup script group → Each (IsSoundDatatype script) group → IsSoundStep script env c (with_group env group)
+  of_group_step c group is unnamed same command counted known fields =
+      let next = env.next + length (of_group group) in record {
+        leads = of_group_live script env sound group counted known fields;
+        levels = λ cs h. same cs (depth env.declarations) (subst (λ (n : ℕ). KeepsLevels n cs) (of_group_depth env group) h);
+        declarations = subst (λ (ds : List Declaration). Each (IsSoundDeclaration script) ds) (sym is) (of_group_sound script group fields);
+        names = good_as script next [] (named_by c) unnamed (no_names script next);
+        command = command;
+      }
+
   -- the parts of a command whose mode is right
   pub parts_step : (at : ℕ) (raw : Command) (c : PlainCommand) (new : Environment) (first second before after : List ℕ) → judge_mode env at raw first (well_sorted tt second)
       → judge_parts env at raw before (well_sorted (c, new) after) → Declares script c → IsSoundStep script env c new
@@ -439,6 +453,12 @@ module _ (script : List Declaration) (env : Environment) (sound : IsSoundEnv scr
       let r = sound_sort script env.names env.declarations env.theories [] sound.signature.sorts s result between later h in
       step_of script env c (typed.declare_fun (next_number env) n.name args result) new (with_function env n.name args result) e
       (λ known. symbol_step script env sound (typed.declare_fun (next_number env) n.name args result) n.name args result refl refl a r (λ cs m l. l) tt (known _ (first_of _ []))) declares
+  parts_step at (declare_datatype n d) c new first second before after mode (t, later, h, (e, f)) declares =
+      step_of script env c (typed.declare_datatype t) new (with_group env (t ∷ [])) e
+      (λ known. of_group_step (typed.declare_datatype t) (t ∷ []) refl refl (λ cs m l. l) tt (single_counted env at n d t before later h) known (judged_single_sound script env sound at n d t before later h known, tt)) declares
+  parts_step at (declare_datatypes ss ds) c new first second before after mode (group, later, h, (e, f)) declares =
+      step_of script env c (typed.declare_datatypes group) new (with_group env group) e
+      (λ known. of_group_step (typed.declare_datatypes group) group refl refl (λ cs m l. l) tt (group_counted env at ss ds group before later h) known (judged_sound script env sound at ss ds group before later h known)) declares
   parts_step at (declare_sort n a) c new first second before after mode (w, start, k, (v, later, h, (e, f))) declares =
       step_of script env c (typed.declare_sort (next_number env) n.name (value_of env a)) new (with_free_sort env n.name (value_of env a)) e (λ known. free_sort_step script env sound n.name (value_of env a)) declares
   parts_step at (define_sort n ps s) c new first second before after mode (w, start, k, (v, between, apart, (body, later, h, (e, f)))) declares =

@@ -10,13 +10,13 @@ use Rattle.judgement.specs.Judging.{◌>>=◌, done, find, well_sorted}
 use Rattle.term_grammar.specs.Reads.{byte_of}
 use Rattle.term_grammar.specs.declared.words.TheConstants.{GLOBAL_DECLARATIONS}
 use Rattle.term_grammar.specs.Syntax.{Attribute, Sort, SortedSymbol, Term, Terms, keyword_attribute, no_terms, valued_attribute, with_term}
-use Rattle.cmd_grammar.specs.Commands.{Command, FunDec, assert, check_sat, check_sat_assuming, declare_const, declare_fun, declare_sort, define_fun, define_fun_rec, define_funs_rec, define_sort, echo, exit, get_assertions, get_assignment, get_info, get_model, get_option, get_proof, get_unsat_assumptions, get_unsat_core, get_value, pop, push, reset, reset_assertions, set_info, set_logic, set_option}
-use Rattle.term_store.specs.Command.{PlainCommand, PlainDef, plain_command, plain_def}
+use Rattle.cmd_grammar.specs.Commands.{Command, FunDec, assert, check_sat, check_sat_assuming, declare_const, declare_datatype, declare_datatypes, declare_fun, declare_sort, define_fun, define_fun_rec, define_funs_rec, define_sort, echo, exit, get_assertions, get_assignment, get_info, get_model, get_option, get_proof, get_unsat_assumptions, get_unsat_core, get_value, pop, push, reset, reset_assertions, set_info, set_logic, set_option}
+use Rattle.term_store.specs.Command.{PlainCommand, PlainDatatype, PlainDef, plain_command, plain_def}
 use Rattle.term_store.specs.Command as typed
 use Rattle.term_store.specs.declared.command.Def.{Def}
 use Rattle.term_store.specs.declared.command.TypedCommand.{TypedCommand}
 use Rattle.term_store.specs.declared.command.TypedCommand.TheVariants as kept
-use Rattle.term_store.specs.Declarations.{Declaration, sort_symbol, function_symbol, datatype, constructor_of, selector_of, definition, term_name, declared_by, declared_in, names_in, names_in_all, number_given}
+use Rattle.term_store.specs.Declarations.{Declaration, sort_symbol, function_symbol, datatype, constructor_of, selector_of, definition, term_name, declared_by, declared_in, names_in, names_in_all, number_given, of_group}
 use Rattle.term_store.specs.SoundScript.{named_def}
 use Rattle.term_store.specs.Term.{PlainTerm}
 use Rattle.typer.specs.FunctionSymbols.{Signature}
@@ -24,12 +24,13 @@ use Rattle.typer.specs.NamedTerms.{AreNamedAfter}
 use Rattle.logic_frag.specs.FragmentRules.{own_definitions}
 use Rattle.script_core.specs.Environment.{Environment, signature_from, signature_in, start as start_env}
 use Rattle.script_core.specs.Keeping.{defined_in, definitions_in}
-use Rattle.script_core.specs.Rules.{Header, after_option, declare_each, defined, judge_body, judge_form, judge_header, judge_headers, judge_members, judge_mode, judge_parts, named_by, next_number, unchanging, value_of, with_free_sort, with_function, with_header, with_headers, with_name, with_names_given}
+use Rattle.script_core.specs.Rules.{Header, after_option, declare_each, defined, judge_body, judge_header, judge_headers, judge_members, judge_mode, judge_parts, named_by, next_number, unchanging, value_of, with_free_sort, with_function, with_group, with_header, with_headers, with_name, with_names_given}
 use Rattle.typer.specs.TermRules.{attribute_key, attribute_value}
 use Rattle.script_core.specs.Steps.{ListSteps, Run, Runs, judge_grammar, judge_tree, with_names}
 use Rattle.script_core.proofs.GivenNames.{body_given, bool_given, each_after, literals_given, members_given, terms_given}
+use Rattle.script_core.proofs.GroupNumbers.{AreCounted, counted_ascend, group_counted, group_defines_none, single_counted}
 use Rattle.script_core.proofs.NamedWalks.{defined_joined}
-use Rattle.script_core.proofs.QuietRules.{none-form, none-header, none-headers, none-mode}
+use Rattle.script_core.proofs.QuietRules.{none-header, none-headers, none-mode}
 use Rattle.script_core.proofs.SoundNumbers.{AscendFrom, AscendTo, ascend_from, ascend_lower, ascend_on}
 
 -- what a command declares but for its named terms
@@ -160,6 +161,14 @@ group_numbered env at fs hs ts ds start between after headed declared j = record
   named = group_names env at hs ts ds start between after (none-headers env fs [] (well_sorted hs start) headed).0 declared j;
 }
 
+-- a group of datatypes has the next numbers
+of_group_numbered : (env : Environment) (c : PlainCommand) (group : List PlainDatatype) → own_by c ≡ of_group group → own_definitions c ≡ [] → named_by c ≡ [] → AreCounted env.next (of_group group) → IsNumbered env c (with_group env group)
+of_group_numbered env c group is nothing unnamed counted = record {
+  ascend = subst (λ (ds : List Declaration). AscendTo env.next (map number_given ds) (env.next + length (of_group group))) (sym is) (counted_ascend env.next (of_group group) counted);
+  own = ap defined_in is ∙ (group_defines_none group ∙ sym nothing);
+  named = subst (AreNumberedFrom (env.next + length (of_group group))) (sym unnamed) (none_numbered (env.next + length (of_group group)));
+}
+
 pub option_next : (env : Environment) (a : Attribute) → (after_option env a).next ≡ env.next
 option_next env (keyword_attribute k) = refl
 option_next env (valued_attribute k v) = elim (cases_Bool (k.name == GLOBAL_DECLARATIONS)) [
@@ -203,6 +212,10 @@ parts_numbered env at (declare_const n s) c new after (w, start, k, (result, lat
     let d = typed.declare_const (next_number env) n.name result in let made = with_function env n.name [] result in numbered_as env c d new made e (single env d made _ refl refl refl refl (none_numbered made.next))
 parts_numbered env at (declare_fun n ss s) c new after (w, start, k, (args, between, given, (result, later, h, (e, f)))) =
     let d = typed.declare_fun (next_number env) n.name args result in let made = with_function env n.name args result in numbered_as env c d new made e (single env d made _ refl refl refl refl (none_numbered made.next))
+parts_numbered env at (declare_datatype n d) c new after (t, later, h, (e, f)) =
+    numbered_as env c (typed.declare_datatype t) new (with_group env (t ∷ [])) e (of_group_numbered env (typed.declare_datatype t) (t ∷ []) refl refl refl (single_counted env at n d t [] later h))
+parts_numbered env at (declare_datatypes ss ds) c new after (group, later, h, (e, f)) =
+    numbered_as env c (typed.declare_datatypes group) new (with_group env group) e (of_group_numbered env (typed.declare_datatypes group) group refl refl refl (group_counted env at ss ds group [] later h))
 parts_numbered env at (declare_sort n a) c new after (w, start, k, (v, later, h, (e, f))) =
     let d = typed.declare_sort (next_number env) n.name (value_of env a) in let made = with_free_sort env n.name (value_of env a) in numbered_as env c d new made e (single env d made _ refl refl refl refl (none_numbered made.next))
 parts_numbered env at (define_sort n ps s) c new after (w, start, k, (v, between, apart, (body, later, h, (e, f)))) = numbered_as env c _ new _ e (quiet env _ _ refl refl refl (none_numbered env.next))
@@ -243,9 +256,8 @@ named_ascend signature (selector_of t c f ∷ ds) before after env counts given 
 named_ascend signature (definition d ∷ ds) before after env counts given = absurd given.0
 
 -- what stands before the parts of a command declares no name
-pub parts_begin : (env : Environment) (t : Sexp Tok) (raw : Command) (at : ℕ) (between first second : List ℕ) → judge_grammar t [] (well_sorted raw between) → judge_form at raw between (well_sorted tt first)
-    → judge_mode env at raw first (well_sorted tt second) → second ≡ []
-parts_begin env t raw at between first second reads form mode = (none-mode env at raw first (well_sorted tt second) mode).0 ∙ ((none-form at raw between (well_sorted tt first) form).0 ∙ reads.1)
+pub parts_begin : (env : Environment) (t : Sexp Tok) (raw : Command) (at : ℕ) (between second : List ℕ) → judge_grammar t [] (well_sorted raw between) → judge_mode env at raw between (well_sorted tt second) → second ≡ []
+parts_begin env t raw at between second reads mode = (none-mode env at raw between (well_sorted tt second) mode).0 ∙ reads.1
 
 -- the definitions of a command, and then those of its named terms
 pub record IsNumberedStep (env : Environment) (c : PlainCommand) (new : Environment) : Type 0 where
@@ -262,8 +274,8 @@ whole_numbered env c made h = record {
 }
 
 pub tree_numbered : (env : Environment) (t : Sexp Tok) (c : PlainCommand) (new : Environment) (after : List ℕ) → judge_tree env t [] (well_sorted (c, new) after) → IsNumberedStep env c new
-tree_numbered env t c new after (raw, between, reads, (made, later, (u, first, form, (v, second, mode, (own, third, parts, (w, fourth, fragment, (g, i))))), (e, f))) =
-    let begins = parts_begin env t raw _ between first second reads form mode in
+tree_numbered env t c new after (raw, between, reads, (made, later, (v, second, mode, (own, third, parts, (w, fourth, fragment, (g, i)))), (e, f))) =
+    let begins = parts_begin env t raw _ between second reads mode in
     let numbered = parts_numbered env _ raw own.0 own.1 third (subst (λ (ns : List ℕ). judge_parts env (byte_of t) raw ns (well_sorted own third)) begins parts) in
     subst (λ (p : PlainCommand × Environment). IsNumberedStep env p.0 p.1) (sym e)
     (subst (λ (p : PlainCommand × Environment). IsNumberedStep env p.0 (with_names_given p.1 (defined_in (named_by p.0)))) (sym g) (whole_numbered env own.0 own.1 numbered))

@@ -7,7 +7,8 @@ use Rattle.sort_store.specs.Interned.{Grows}
 use Rattle.sort_store.specs.Tree.{NumberedSort, tree}
 use Rattle.sort_store.specs.Tree as sorts
 use Rattle.term_grammar.specs.Syntax.{Sort, Sorts, Term}
-use Rattle.cmd_grammar.specs.Commands.{Command, FunDec, declare_const, declare_fun, declare_sort, define_fun, define_fun_rec, define_funs_rec, define_sort, echo, exit, get_info, get_option, reset, set_info, set_logic, set_option}
+use Rattle.datatype_commands.specs.Answers.{HaveNames}
+use Rattle.cmd_grammar.specs.Commands.{Command, FunDec, declare_const, declare_datatype, declare_datatypes, declare_fun, declare_sort, define_fun, define_fun_rec, define_funs_rec, define_sort, echo, exit, get_info, get_option, reset, set_info, set_logic, set_option}
 use Rattle.typer.specs.SortRules.{judge_sort, judge_sorts}
 use Rattle.typer.specs.TermRules.{judge_term}
 use Rattle.term_store.specs.declared.command.TypedCommand.{TypedCommand}
@@ -112,6 +113,8 @@ AreNamed texts (f ∷ fs) = (f.name.name < length texts) × AreNamed texts fs
 abbrev pub IsDeclaredNamed : List (List ℕ) → Command → Type 0
 IsDeclaredNamed texts (declare_const n s) = n.name < length texts
 IsDeclaredNamed texts (declare_fun n ss s) = n.name < length texts
+IsDeclaredNamed texts (declare_datatype n d) = n.name < length texts
+IsDeclaredNamed texts (declare_datatypes ss ds) = HaveNames texts ss
 IsDeclaredNamed texts (declare_sort n a) = n.name < length texts
 IsDeclaredNamed texts (define_sort n ps s) = n.name < length texts
 IsDeclaredNamed texts (define_fun f) = f.name.name < length texts

@@ -17,7 +17,7 @@ use Rattle.term_store.specs.Command as typed
 use Rattle.logic_frag.specs.TermSearch.{command_has_part, is_quantifier}
 use Rattle.typer.specs.Declarations.{depth}
 use Rattle.script_core.specs.Environment.{Environment, logic_theories, text_of}
-use Rattle.script_core.specs.Rules.{is_built, value_of}
+use Rattle.script_core.specs.Rules.{value_of}
 use Rattle.typer.specs.TermRules.{attribute_key}
 
 abbrev pub Answer : Type 0
@@ -33,9 +33,6 @@ test b c at = if b then Ok tt else fault c at
 abbrev pub both : Answer → Answer → Answer
 both (Ok u) next = next
 both (Err place) next = Err place
-
-abbrev pub answer_form : ℕ → Command → Answer
-answer_form at command = test (is_built command) code.WrongCommandForm at
 
 abbrev pub answer_push : Environment → ℕ → Tok → Answer
 answer_push env at n = both (test env.logic code.LogicNotSet at) (test (nat_le (depth env.declarations + value_of env n) 65535) code.TooManyLevels at)
@@ -61,12 +58,18 @@ is_recursive (typed.define_fun_rec d) = true
 is_recursive (typed.define_funs_rec ds) = true
 is_recursive command = false
 
+abbrev pub declares_datatype : PlainCommand → Bool
+declares_datatype (typed.declare_datatype t) = true
+declares_datatype (typed.declare_datatypes ts) = true
+declares_datatype command = false
+
 abbrev pub is_quantified : PlainCommand → Bool
 is_quantified c = command_has_part is_quantifier c
 
 abbrev pub answer_fragment : Theories → ℕ → PlainCommand → Answer
 answer_fragment theories at c =
-    both (test (not (is_quantified c) || theories.ints) code.QuantifierOutsideLogic at) (test (not (is_recursive c) || theories.ints) code.RecursionOutsideLogic at)
+    both (test (not (is_quantified c) || theories.ints) code.QuantifierOutsideLogic at)
+    (both (test (not (declares_datatype c) || theories.ints) code.DatatypeOutsideLogic at) (test (not (is_recursive c) || theories.ints) code.RecursionOutsideLogic at))
 
 -- the terms that are left
 abbrev pub terms_left : Option (Term × Terms) → Terms

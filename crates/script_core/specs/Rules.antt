@@ -20,23 +20,15 @@ use Rattle.typer.specs.Declarations.{depth, free_sort, defined_sort, with_fun, w
 use Rattle.typer.specs.SortRules.{judge_sort, judge_sorts}
 use Rattle.typer.specs.TermRules.{attribute_key, attribute_value, judge_term, judge_terms}
 use Rattle.typer.specs.FunctionSymbols.{is_fun_in_use, is_sort_in_use}
-use Rattle.term_store.specs.Command.{PlainCommand, PlainDef}
+use Rattle.datatype_commands.specs.DeclaredDatatypes.{with_parts, with_sorts}
+use Rattle.datatype_commands.specs.GroupRules.{judge_group, judge_single}
+use Rattle.term_store.specs.Command.{PlainCommand, PlainDatatype, PlainDef}
 use Rattle.term_store.specs.Command as typed
-use Rattle.term_store.specs.Declarations.{Declaration, names_in, names_in_all}
+use Rattle.term_store.specs.Declarations.{Declaration, names_in, names_in_all, of_group}
 use Rattle.term_store.specs.Term.{PlainTerm, plain_sort}
-use Rattle.logic_frag.specs.FragmentRules.{DefinesRecursively, HasTerm, IsQuantifier}
+use Rattle.logic_frag.specs.FragmentRules.{DeclaresDatatype, DefinesRecursively, HasTerm, IsQuantifier}
 use Rattle.script_core.specs.Keeping.{defined_in}
 use Rattle.script_core.specs.Environment.{Environment, logic_theories, signature_from, signature_in, start, text_of, theories_of}
-
--- the commands that are built
-abbrev pub is_built : Command → Bool
-is_built (declare_datatype n d) = false
-is_built (declare_datatypes ss ds) = false
-is_built command = true
-
--- a command that is not built is refused before its terms
-abbrev pub judge_form : ℕ → Command → Judging (Unit {0})
-judge_form at command = check (IsTrue (is_built command)) code.WrongCommandForm at
 
 -- the value of a numeral in the text
 abbrev pub value_of : Environment → Tok → ℕ
@@ -228,6 +220,23 @@ abbrev pub with_names_given : Environment → List PlainDef → Environment
 with_names_given env [] = env
 with_names_given env (d ∷ ds) = with_names_given (with_name env d) ds
 
+-- a group of datatypes whose sort symbols are live: its constructors and selectors are live too, and the datatypes are kept
+abbrev pub with_parts_kept : Environment → List PlainDatatype → Environment
+with_parts_kept env group = record env {
+  declarations = with_parts env.declarations group;
+  datatypes = env.datatypes ++ group;
+  next = env.next + length (of_group group);
+}
+
+abbrev pub with_group : Environment → List PlainDatatype → Environment
+with_group env group = with_parts_kept (record env { declarations = with_sorts env.declarations group }) group
+
+-- the command declares datatypes
+abbrev pub declares_group : Command → Bool
+declares_group (declare_datatype n d) = true
+declares_group (declare_datatypes ss ds) = true
+declares_group command = false
+
 -- The names, sorts and terms of the command whose list begins at this byte, with the typed command that is kept and what it leads
 -- to. A name that is in use is the first fault of a declaration. `reset` forgets all but the names and the next number, since a
 -- number is never used again.
@@ -247,6 +256,12 @@ judge_parts env at (declare_fun n ss s) = do
   args ← judge_sorts env.names env.declarations env.theories [] ss
   result ← judge_sort env.names env.declarations env.theories [] s
   done (typed.declare_fun (next_number env) n.name args result, with_function env n.name args result)
+judge_parts env at (declare_datatype n d) = do
+  t ← judge_single (signature_in env) at n d
+  done (typed.declare_datatype t, with_group env (t ∷ []))
+judge_parts env at (declare_datatypes ss ds) = do
+  group ← judge_group (signature_in env) at ss ds
+  done (typed.declare_datatypes group, with_group env group)
 judge_parts env at (declare_sort n a) = do
   _ ← check (is_sort_in_use (signature_in env) n.name ≡ false) code.SortNameInUse n.at
   _ ← check (value_of env a < 2 ^ 32) code.NumberTooLarge a.at
@@ -284,17 +299,17 @@ judge_parts env at command = do
   c ← find (λ c. unchanging command ≡ Some c) code.WrongCommandForm at
   done (c, env)
 
--- Whether the logic allows the typed command. Of the logics that are built ALL alone allows quantifiers and recursive definitions,
--- and it alone has Ints.
+-- Whether the logic allows the typed command. Of the logics that are built ALL alone allows quantifiers, datatypes and recursive
+-- definitions, and it alone has Ints.
 abbrev pub judge_fragment : Environment → ℕ → PlainCommand → Judging (Unit {0})
 judge_fragment env at c = do
   _ ← check (HasTerm c (λ o. IsQuantifier o.its) → IsTrue env.theories.ints) code.QuantifierOutsideLogic at
+  _ ← check (DeclaresDatatype c → IsTrue env.theories.ints) code.DatatypeOutsideLogic at
   check (DefinesRecursively c → IsTrue env.theories.ints) code.RecursionOutsideLogic at
 
 -- the command whose list begins at this byte, before its named terms are live
 abbrev pub judge_own : Environment → ℕ → Command → Judging (PlainCommand × Environment)
 judge_own env at command = do
-  _ ← judge_form at command
   _ ← judge_mode env at command
   made ← judge_parts env at command
   _ ← judge_fragment env at made.0

@@ -5,8 +5,10 @@ ghost use Rattle.lex_core.specs.Token.{IsInterned, Token, fed_tokens, option_tok
 ghost use Rattle.sexp_core.specs.Sexp.{flat};
 ghost use Rattle.term_store.specs.SoundScript.{IsSound};
 ghost use Rattle.script_core.specs.Interned.{AreInterned};
+ghost use Rattle.datatype_commands.specs.KnownDatatypes.{KnowsDatatypes};
+ghost use Rattle.script_core.specs.Environment.{signature_in};
 ghost use Rattle.script_core.specs.Keeping.{KeepsBelow, KeepsEarlier};
-ghost use Rattle.script_core.specs.Checking.{Awaits, BreaksTree, BreaksWith, BreaksWithin, HasTaken, IfEnded, IfMore, IfRefused, IsReadyScope, accepted_by};
+ghost use Rattle.script_core.specs.Checking.{Awaits, BreaksTree, BreaksWith, BreaksWithin, HasTaken, IfEnded, IfMore, IfRefused, IsReadyScope, accepted_by, environment_of};
 ghost use Rattle.script_core.specs.Checking.{AcceptsText, ExitsByte, ExitsBytes, ExitsWithin, RefusesByte, RefusesBytes, RefusesText, TakesByte, TakesBytes, TakesTokens, TakesTree};
 
 use crate::refusal::{Progress, Refusal, Stop};
@@ -69,6 +71,7 @@ impl Checker {
     fn take_list(&mut self, tree: &Tree) -> Result<Progress, Stop>
         requires interned { AreInterned self.old.scope.world.names (flat tree.now) }
         requires stands { IsReadyScope self.old.scope }
+        requires known { KnowsDatatypes (signature_in (environment_of self.old.scope.world.names self.old.scope)) }
         requires kept { KeepsBelow self.old.scope.next self.old.scope.world.script.defs }
         requires few { length (accepted_by self.old) + 1 < 2 ^ 32 - 1 }
         ensures ok { IfOk result (λ progress. TakesTree self.old.scope tree.now progress self.new.scope) }

@@ -44,7 +44,8 @@ pub fn broken(code: Code, at: u32) -> StepError
     StepError::Broken(Place { code, at })
 }
 
-fn step_error(error: TyError) -> StepError
+/// Why a command is not accepted whose sort, term or group breaks a rule, or for which memory ran out.
+pub fn step_error(error: TyError) -> StepError
     ensures { result ≡ step_error_of error }
 {
     match error {

@@ -1,14 +1,14 @@
-//! A script keeps the definitions of its commands.
+//! A script keeps the definitions and the datatypes of its commands.
 ghost use Rattle.std.specs.Prelude.{◌≡◌, ◌++◌, ◌∷◌, [], IfErr, IfOk, OnErr, OnOk};
 ghost use Rattle.term_store.specs.Definitions.{IsUnused};
-ghost use Rattle.script_core.specs.Keeping.{EachUnused, KeepsPart, definitions_in, with_definitions};
+ghost use Rattle.script_core.specs.Keeping.{EachDatatypeUnused, EachUnused, KeepsGroupPart, KeepsPart, definitions_in, with_datatypes, with_definitions};
 
 use crate::effects::copy_of;
 use crate::scope::StepError;
 use lex_core::NameId;
 use sort_store::SortRef;
 use std::alloc::Global;
-use term_store::{Def, ListOf, Script, TermRef, TypedCommand};
+use term_store::{Constructor, Datatype, Def, Field, ListOf, Script, TermRef, TypedCommand};
 
 /// The same variables once more. The only error is that memory runs out.
 pub fn copy_of_vars(
@@ -101,6 +101,111 @@ fn keep_own(alloc: Global, script: &mut Script, command: &TypedCommand) -> Resul
         TypedCommand::DefineFunsRec { defs } => keep_all(alloc, script, defs.as_slice()),
         _ => Ok(()),
     }
+}
+
+// The same names once more. The only error is that memory runs out.
+fn copy_of_names(alloc: Global, names: &[NameId]) -> Result<ListOf<NameId>, StepError>
+    ensures ok { IfOk result (λ list. list ≡ names.now) }
+    ensures err { IfErr result (λ e. e ≡ StepError.NoMemory) }
+{
+    let mut list: ListOf<NameId> = ListOf::new(alloc);
+    for name in names {
+        match list.push(*name) {
+            Ok(()) => {}
+            Err(_) => return Err(StepError::NoMemory),
+        }
+    }
+    Ok(list)
+}
+
+// The same fields once more. The only error is that memory runs out.
+fn copy_of_fields(alloc: Global, fields: &[Field]) -> Result<ListOf<Field>, StepError>
+    ensures ok { IfOk result (λ list. list ≡ fields.now) }
+    ensures err { IfErr result (λ e. e ≡ StepError.NoMemory) }
+{
+    let mut list: ListOf<Field> = ListOf::new(alloc);
+    for field in fields {
+        let sort = copy_of(&field.sort)?;
+        let copy = Field {
+            no: field.no,
+            name: field.name,
+            sort,
+        };
+        match list.push(copy) {
+            Ok(()) => {}
+            Err(_) => return Err(StepError::NoMemory),
+        }
+    }
+    Ok(list)
+}
+
+// The same constructors once more. The only error is that memory runs out.
+fn copy_of_constructors(
+    alloc: Global,
+    constructors: &[Constructor],
+) -> Result<ListOf<Constructor>, StepError>
+    ensures ok { IfOk result (λ list. list ≡ constructors.now) }
+    ensures err { IfErr result (λ e. e ≡ StepError.NoMemory) }
+{
+    let mut list: ListOf<Constructor> = ListOf::new(alloc);
+    for constructor in constructors {
+        let fields = copy_of_fields(alloc, constructor.fields.as_slice())?;
+        let copy = Constructor {
+            no: constructor.no,
+            name: constructor.name,
+            fields,
+        };
+        match list.push(copy) {
+            Ok(()) => {}
+            Err(_) => return Err(StepError::NoMemory),
+        }
+    }
+    Ok(list)
+}
+
+// The same datatype once more. The only error is that memory runs out.
+fn copy_of_datatype(alloc: Global, datatype: &Datatype) -> Result<Datatype, StepError>
+    ensures ok { IfOk result (λ t. t ≡ datatype.now) }
+    ensures err { IfErr result (λ e. e ≡ StepError.NoMemory) }
+{
+    let params = copy_of_names(alloc, datatype.params.as_slice())?;
+    let constructors = copy_of_constructors(alloc, datatype.constructors.as_slice())?;
+    Ok(Datatype {
+        no: datatype.no,
+        name: datatype.name,
+        params,
+        constructors,
+    })
+}
+
+// Keeps a datatype. The only error is that memory runs out; it leaves the script as it was.
+fn keep_datatype(script: &mut Script, datatype: Datatype) -> Result<(), StepError>
+    requires { IsUnused script.old.defs datatype.no }
+    ensures ok { OnOk result (script.new ≡ with_datatypes script.old (datatype ∷ [])) }
+    ensures err { IfErr result (λ e. e ≡ StepError.NoMemory) }
+    ensures left { OnErr result (script.new ≡ script.old) }
+{
+    match script.defs_mut().keep_datatype(datatype) {
+        Ok(()) => Ok(()),
+        Err(_) => Err(StepError::NoMemory),
+    }
+}
+
+/// Keeps the datatypes of a group, those before an error too. The only error is that memory runs out.
+pub fn keep_group(alloc: Global, script: &mut Script, group: &[Datatype]) -> Result<(), StepError>
+    requires { EachDatatypeUnused script.old.defs group.now }
+    ensures ok { OnOk result (script.new ≡ with_datatypes script.old group.now) }
+    ensures err { IfErr result (λ e. e ≡ StepError.NoMemory) }
+    ensures left { OnErr result (KeepsGroupPart script.old group.now script.new) }
+{
+    for datatype in group {
+        let copy = copy_of_datatype(alloc, datatype)?;
+        match keep_datatype(script, copy) {
+            Ok(()) => {}
+            Err(error) => return Err(error),
+        }
+    }
+    Ok(())
 }
 
 /// Keeps the definitions of a command and then those of its named terms, those before an error too. The only error is that memory

@@ -1,9 +1,14 @@
 //! What a command makes of the environment, once its form and mode are judged (SMT-LIB 2.6, section 4.2).
-ghost use Rattle.std.specs.Prelude.{◌≡◌};
+ghost use Rattle.std.specs.Prelude.{◌≡◌, IfOk, OnErr, false};
 ghost use Rattle.cmd_grammar.specs.CommandViews.{command_from};
 ghost use Rattle.script_core.specs.Effects.{BeginsNames, IsDeclaredNamed, IsInMode, MeetsParts, seen_by};
 ghost use Rattle.script_core.specs.Checking.{IsReadyScope, environment_of};
+ghost use Rattle.script_core.specs.Environment.{signature_in};
+ghost use Rattle.script_core.specs.Keeping.{KeepsBelow, KeepsEarlier, group_in, with_datatypes};
+ghost use Rattle.script_core.specs.Rules.{declares_group};
+ghost use Rattle.datatype_commands.specs.KnownDatatypes.{KnowsDatatypes};
 
+use crate::datatypes::{declare_datatype, declare_datatypes};
 use crate::definitions::{define_fun, define_fun_rec, define_funs_rec};
 use crate::effects::{
     assertion, assumptions, declare_const, declare_fun, declare_sort, define_sort, pop, push,
@@ -14,13 +19,13 @@ use crate::unchanging::unchanging;
 use cmd_grammar::RawCommandKind;
 use term_store::TypedCommand;
 
-/// Judges the names, sorts and terms of a command whose form and mode are judged and whose list begins at a byte, does what it
-/// leads to, and answers the typed command. `Broken` comes exactly where one breaks a rule.
-pub fn take_parts(
+// The same of a command that declares no datatype.
+fn take_plain(
     scope: &mut Scope,
     at: u32,
     command: RawCommandKind,
 ) -> Result<TypedCommand, StepError>
+    requires plain { declares_group (command_from command) ≡ false }
     requires stands { IsReadyScope scope.old }
     requires begins { BeginsNames scope.old }
     requires named { IsDeclaredNamed scope.old.world.names (command_from command) }
@@ -65,5 +70,37 @@ pub fn take_parts(
             bodies,
         } => define_funs_rec(scope, at, &declarations, &bodies),
         other => unchanging(scope.alloc, at, &other),
+    }
+}
+
+/// Judges the names, sorts and terms of a command whose mode is judged and whose list begins at a byte, does what it leads to, and
+/// answers the typed command. `Broken` comes exactly where one breaks a rule. The script keeps the datatypes that the command
+/// declares; after an error some of them may be kept.
+pub fn take_parts(
+    scope: &mut Scope,
+    at: u32,
+    command: RawCommandKind,
+) -> Result<TypedCommand, StepError>
+    requires stands { IsReadyScope scope.old }
+    requires begins { BeginsNames scope.old }
+    requires named { IsDeclaredNamed scope.old.world.names (command_from command) }
+    requires mode { IsInMode scope.old.logic (command_from command) }
+    requires known { KnowsDatatypes (signature_in (environment_of scope.old.world.names scope.old)) }
+    requires kept { KeepsBelow scope.old.next scope.old.world.script.defs }
+    ensures answer { let names = scope.old.world.names in
+        MeetsParts (environment_of names scope.old) at (command_from command.entry) result (environment_of names scope.new) (seen_by scope.new) }
+    ensures names { scope.new.world.names ≡ scope.old.world.names }
+    ensures script { IfOk result (λ c. scope.new.world.script ≡ with_datatypes scope.old.world.script (group_in c)) }
+    ensures earlier { OnErr result (KeepsEarlier scope.old.next scope.old.world.script scope.new.world.script) }
+    ensures stands { IsReadyScope scope.new }
+{
+    match command {
+        RawCommandKind::DeclareDatatype { name, declaration } => {
+            declare_datatype(scope, at, &name, declaration)
+        }
+        RawCommandKind::DeclareDatatypes { sorts, datatypes } => {
+            declare_datatypes(scope, at, &sorts, &datatypes)
+        }
+        other => take_plain(scope, at, other),
     }
 }

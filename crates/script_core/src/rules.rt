@@ -3,7 +3,7 @@ ghost use Rattle.std.specs.Prelude.{◌≡◌, ◌↔◌, ◌≤◌, ◌^◌, []
 ghost use Rattle.cmd_grammar.specs.CommandViews.{command_from};
 ghost use Rattle.typer.specs.Numerals.{numeral_value as value_of_text};
 ghost use Rattle.typer.specs.TermRules.{attribute_key as key_of_attribute};
-ghost use Rattle.script_core.specs.RuleAnswers.{answer_form, answer_fragment, answer_mode, answer_pop, answer_push, both, is_quantified as is_quantified_command, is_recursive as is_recursive_command, test};
+ghost use Rattle.script_core.specs.RuleAnswers.{answer_fragment, answer_mode, answer_pop, answer_push, declares_datatype as declares_datatype_command, is_quantified as is_quantified_command, is_recursive as is_recursive_command, test};
 ghost use Rattle.term_store.specs.Command.{plain_command};
 ghost use Rattle.script_core.specs.Checking.{environment_of};
 
@@ -53,18 +53,6 @@ pub fn attribute_key(attribute: &RawAttribute) -> Tok
     }
 }
 
-// Whether the command is built.
-fn judge_form(at: u32, command: &RawCommandKind) -> Result<(), Place>
-    ensures { result ≡ answer_form at (command_from command.now) }
-{
-    match command {
-        RawCommandKind::DeclareDatatype { .. } | RawCommandKind::DeclareDatatypes { .. } => {
-            rule(false, Code::WrongCommandForm, at)
-        }
-        _ => Ok(()),
-    }
-}
-
 // Whether `push` leaves few enough levels open.
 fn judge_push(scope: &Scope, at: u32, count: &Tok) -> Result<(), Place>
     ensures { result ≡ answer_push (environment_of scope.now.world.names scope.now) at count.now }
@@ -90,7 +78,8 @@ fn judge_pop(scope: &Scope, at: u32, count: &Tok) -> Result<(), Place>
     rule(enough, Code::TooFewLevels, at)
 }
 
-fn judge_mode(scope: &Scope, at: u32, command: &RawCommandKind) -> Result<(), Place>
+/// Judges the mode of a command, whose list begins at this byte.
+pub fn judge_mode(scope: &Scope, at: u32, command: &RawCommandKind) -> Result<(), Place>
     ensures { result ≡ answer_mode (environment_of scope.now.world.names scope.now) at (command_from command.now) }
 {
     match command {
@@ -115,19 +104,20 @@ fn judge_mode(scope: &Scope, at: u32, command: &RawCommandKind) -> Result<(), Pl
     }
 }
 
-/// Judges the form and the mode of a command, whose list begins at this byte.
-pub fn judge_command(scope: &Scope, at: u32, command: &RawCommandKind) -> Result<(), Place>
-    ensures { let env = environment_of scope.now.world.names scope.now in let c = command_from command.now in
-        result ≡ both (answer_form at c) (answer_mode env at c) }
-{
-    judge_form(at, command)?;
-    judge_mode(scope, at, command)
-}
-
 fn is_quantified(command: &TypedCommand) -> bool
     ensures { result ≡ is_quantified_command (plain_command command.now) }
 {
     has_quantifier(command)
+}
+
+// Whether the command declares datatypes.
+fn declares_datatype(command: &TypedCommand) -> bool
+    ensures { result ≡ declares_datatype_command (plain_command command.now) }
+{
+    matches!(
+        command,
+        TypedCommand::DeclareDatatype { .. } | TypedCommand::DeclareDatatypes { .. }
+    )
 }
 
 // Whether the command defines functions recursively.
@@ -146,6 +136,8 @@ pub fn judge_fragment(theories: Theories, at: u32, command: &TypedCommand) -> Re
 {
     let quantified = !is_quantified(command) || theories.ints;
     rule(quantified, Code::QuantifierOutsideLogic, at)?;
+    let declaring = !declares_datatype(command) || theories.ints;
+    rule(declaring, Code::DatatypeOutsideLogic, at)?;
     let recursive = !is_recursive(command) || theories.ints;
     rule(recursive, Code::RecursionOutsideLogic, at)
 }

@@ -1,6 +1,7 @@
 ghost use Rattle.std.specs.Prelude.{◌≡◌, false};
 
 mod bits;
+mod datatypes;
 mod definitions;
 mod large;
 mod naming;

@@ -1,17 +1,16 @@
-use Rattle.std.proofs.Common.{refl}
 use Rattle.cmd_grammar.specs.CommandViews.{command_from}
 use Rattle.script_core.specs.Checking.{environment_of}
 use Rattle.script_core.specs.Effects.{seen_by}
-use Rattle.script_core.proofs.TakingParts.{unnamed_parts}
-use Rattle.script_core.proofs.TakingUnchanging.{unchanging_answer}
+use Rattle.script_core.proofs.PlainParts.{plain_earlier, plain_script, plain_view}
 use Rattle.script_core.proofs.parts.take_parts.Goals as goal
 
-pub returns-in_default : goal.returns-in_default
-returns-in_default c = let d = c.in_default in record {
-  answer = unnamed_parts (environment_of c.args.scope.now.world.names c.args.scope.now) (environment_of c.args.scope.now.world.names c.args.scope.now) c.args.at (command_from c.args.command) c.unchanging.result (seen_by c.args.scope.now) c.requires.begins.0
-      (unchanging_answer (environment_of c.args.scope.now.world.names c.args.scope.now) c.args.at c.args.command c.unchanging.result d.not-Assert d.not-CheckSatAssuming d.not-DeclareConst d.not-DeclareFun d.not-DeclareSort d.not-DefineSort
-      d.not-Push d.not-Pop d.not-SetLogic d.not-SetOption d.not-GetValue d.not-DefineFun d.not-DefineFunRec d.not-DefineFunsRec d.not-Reset d.not-ResetAssertions c.unchanging.ensures);
-  names = refl;
-  script = refl;
-  stands = c.requires.stands;
-}
+pub take_plain-requires-clause-plain : goal.take_plain-requires-clause-plain
+take_plain-requires-clause-plain c = plain_view c.args.command c.in_default.not-DeclareDatatype c.in_default.not-DeclareDatatypes
+
+pub returns-in_default-clause-script : goal.returns-in_default-clause-script
+returns-in_default-clause-script c = let names = c.args.scope.now.world.names in
+    plain_script (environment_of names c.args.scope.now) (environment_of names c.take_plain.new.scope) c.args.at (command_from c.args.command) c.take_plain.result (seen_by c.take_plain.new.scope) c.args.scope.now.world.script c.take_plain.new.scope.world.script
+    (plain_view c.args.command c.in_default.not-DeclareDatatype c.in_default.not-DeclareDatatypes) c.take_plain.ensures.answer c.take_plain.ensures.script
+
+pub returns-in_default-clause-earlier : goal.returns-in_default-clause-earlier
+returns-in_default-clause-earlier c = plain_earlier c.take_plain.result c.args.scope.now.next c.args.scope.now.world.script c.take_plain.new.scope.world.script c.take_plain.ensures.script

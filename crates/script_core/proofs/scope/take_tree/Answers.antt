@@ -14,22 +14,22 @@ returns-in-Err-clause-answer c =
 pub keep_definitions-requires : goal.keep_definitions-requires
 keep_definitions-requires c = let mid = c.typed_of.new.scope in
     tree_unused c.args.scope.now (environment_of c.args.scope.now.world.names mid) (seen_by mid) c.args.tree.now c.in-Ok.taken c.deref.result.now c.deref.ensures.value c.in-Ok.ensures.answer c.in-Ok.ensures.named
-    mid.world.script c.requires.kept c.typed_of.ensures.script
+    mid.world.script c.requires.kept c.in-Ok.ensures.script
 
 pub returns-in-Err-keep_definitions-clause-script : goal.returns-in-Err-keep_definitions-clause-script
 returns-in-Err-keep_definitions-clause-script c = let mid = c.typed_of.new.scope in
     some_kept c.args.scope.now (environment_of c.args.scope.now.world.names mid) (seen_by mid) c.args.tree.now c.in-Ok.taken c.deref.result.now c.deref.ensures.value c.in-Ok.ensures.answer c.in-Ok.ensures.named
-    mid.world.script c.keep_definitions.new.script c.typed_of.ensures.script c.in-Err-keep_definitions.ensures.left
+    mid.world.script c.keep_definitions.new.script c.in-Ok.ensures.script c.in-Err-keep_definitions.ensures.left
 
 pub returns-in-Ok-push-clause-answer : goal.returns-in-Ok-push-clause-answer
 returns-in-Ok-push-clause-answer c = let mid = c.typed_of.new.scope in
     tree_takes c.args.scope.now mid c.keep_definitions.new.script c.push.new.self (seen_by mid) c.args.tree.now c.in-Ok.taken c.deref.result.now c.progress_after-progress.result c.deref.ensures.value
-    c.in-Ok.ensures.answer c.in-Ok.ensures.named c.typed_of.ensures.script c.in-Ok-keep_definitions.ensures.ok c.in-Ok-push.ensures.ok c.progress_after-progress.ensures
+    c.in-Ok.ensures.answer c.in-Ok.ensures.named c.in-Ok.ensures.script c.in-Ok-keep_definitions.ensures.ok c.in-Ok-push.ensures.ok c.progress_after-progress.ensures
 
 pub returns-clause-script : goal.returns-clause-script
 returns-clause-script c = let mid = c.typed_of.new.scope in
     all_kept c.args.scope.now (environment_of c.args.scope.now.world.names mid) (seen_by mid) c.args.tree.now c.in-Ok.taken c.deref.result.now c.deref.ensures.value c.in-Ok.ensures.answer c.in-Ok.ensures.named
-    mid.world.script c.push.new.self c.typed_of.ensures.script (c.in-Err-push.ensures.err ∙ c.in-Ok-keep_definitions.ensures.ok)
+    mid.world.script c.push.new.self c.in-Ok.ensures.script (c.in-Err-push.ensures.err ∙ c.in-Ok-keep_definitions.ensures.ok)
 
 pub returns-in-Ok-push-clause-stands : goal.returns-in-Ok-push-clause-stands
 returns-in-Ok-push-clause-stands c = let mid = c.typed_of.new.scope in

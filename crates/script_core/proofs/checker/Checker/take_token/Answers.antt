@@ -1,5 +1,5 @@
 use Rattle.std.proofs.Common.{arith}
-use Rattle.script_core.proofs.SoundCheckers.{follows_below, list_sound}
+use Rattle.script_core.proofs.SoundCheckers.{follows_below, known_under, list_sound}
 use Rattle.script_core.proofs.TakingTokens.{broken_token, ended_list, refused_list, taken_inside, taken_list, tree_interned}
 use Rattle.script_core.proofs.checker.Checker.take_token.Goals as goal
 
@@ -9,6 +9,9 @@ take_list-requires-clause-interned c = let some = c.in-Ok-Some in
 
 pub take_list-requires-clause-stands : goal.take_list-requires-clause-stands
 take_list-requires-clause-stands c = c.requires.awaits.1.follows.stands
+
+pub take_list-requires-clause-known : goal.take_list-requires-clause-known
+take_list-requires-clause-known c = let w = c.requires.awaits.1 in known_under w.known c.requires.awaits.0 c.args.self.now w.follows c.args.self.now.scope.world.names
 
 pub take_list-requires-clause-kept : goal.take_list-requires-clause-kept
 take_list-requires-clause-kept c = let w = c.requires.awaits.1 in follows_below w.known c.requires.awaits.0 c.args.self.now w.follows
