@@ -11,3 +11,4 @@ pub mod LawfulGroups
 pub mod QuietGroups
 pub mod MovedGroups
 pub mod LiveParts
+pub mod FreshWorlds

@@ -11,3 +11,6 @@ pub use group::{type_group, type_single};
 pub use laws::group_laws;
 pub use live::declare_parts;
 pub use symbols::{DatatypeSymbol, value_of};
+
+#[cfg(test)]
+mod tests;
