@@ -40,6 +40,3 @@ pub known_under : (known : List (List ℕ)) (tokens : List Token) (c : Checker) 
 known_under known tokens c f names =
     let knows = known_datatypes c.scope.world.script f.lists _ f.runs refl f.keeps refl in
     record { script = knows.script; sorts = knows.sorts; fields = knows.fields; kept = knows.kept; below = knows.below }
-
-pub follows_known : (known : List (List ℕ)) (tokens : List Token) (c : Checker) (f : Follows known tokens c) → KnowsDatatypes (signature_in (environment_of f.names c.scope))
-follows_known known tokens c f = known_under known tokens c f f.names
