@@ -32,10 +32,18 @@ use Rattle.script_core.specs.Environment.{Environment, signature_from, signature
 use Rattle.script_core.specs.Keeping.{EachDatatypeUnused, KeepsBelow, KeepsEarlier, KeepsGroupPart, with_datatypes}
 use Rattle.script_core.specs.Rules.{with_group, with_parts_kept}
 use Rattle.script_core.proofs.GroupCounts.{take_all}
-use Rattle.script_core.proofs.GroupNumbers.{group_numbers, single_number, typed_numbers}
+use Rattle.script_core.proofs.GroupNumbers.{group_numbers, single_number}
 use Rattle.script_core.proofs.KeptNumbers.{each_datatype_unused, group_part_earlier}
 use Rattle.script_core.proofs.SoundNumbers.{AscendFrom}
 use Rattle.script_core.proofs.TakingParts.{same_pair}
+
+-- numbers that ascend, by those of what is kept
+kept_ascend : (n : ℕ) (ts : List Datatype) → AscendFrom n (map (λ (t : PlainDatatype). t.no.0) (map plain_datatype ts)) → AscendFrom n (map (λ (t : Datatype). t.no.0) ts)
+kept_ascend n ts h = subst (AscendFrom n) (sym (numbers_of ts)) h
+  where
+    numbers_of : (ts : List Datatype) → map (λ (t : Datatype). t.no.0) ts ≡ map (λ (t : PlainDatatype). t.no.0) (map plain_datatype ts)
+    numbers_of [] = refl
+    numbers_of (t ∷ ts) = ap (λ ns. t.no.0 ∷ ns) (numbers_of ts)
 
 -- a datatype that is declared alone
 single_ascends : (n : ℕ) (t : Datatype) → t.no.0 ≡ n → AscendFrom n (map (λ (u : Datatype). u.no.0) (t ∷ []))
@@ -126,7 +134,7 @@ module _ (scope : Scope) (begins : BeginsNames scope) where
   single_judged at n d t h = subst (λ (s : Signature). judge_single s at n d [] (well_sorted (plain_datatype t) [])) here_signature (h [])
 
   pub group_ascends : (at : ℕ) (ss : List SortDec) (ds : List DataDec) (group : List Datatype) → Answers (Ok (map plain_datatype group)) (judge_group (signature_of scope.world) at ss ds) → AscendFrom scope.next (map (λ (t : Datatype). t.no.0) group)
-  group_ascends at ss ds group h = typed_numbers scope.next group (group_numbers env at ss ds (map plain_datatype group) [] [] (group_judged at ss ds group h))
+  group_ascends at ss ds group h = kept_ascend scope.next group (group_numbers env at ss ds (map plain_datatype group) [] [] (group_judged at ss ds group h))
 
   pub single_alone : (at : ℕ) (n : Tok) (d : DataDec) (t : Datatype) → Answers (Ok (plain_datatype t)) (judge_single (signature_of scope.world) at n d) → AscendFrom scope.next (map (λ (u : Datatype). u.no.0) (t ∷ []))
   single_alone at n d t h = single_ascends scope.next t (single_number env at n d (plain_datatype t) [] [] (single_judged at n d t h))
