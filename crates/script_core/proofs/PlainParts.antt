@@ -74,7 +74,8 @@ parts_plain env at reset c new before after p (e, f) = same_kind c _ new _ e ref
 parts_plain env at reset_assertions c new before after p (e, f) = same_kind c _ new _ e refl
 parts_plain env at raw c new before after p h = others_plain env at raw c new before after h
 
-with_none : (script : Kept) → with_datatypes script [] ≡ script
+-- with no datatype more
+pub with_none : (script : Kept) → with_datatypes script [] ≡ script
 with_none script = ap (λ ds. record { commands = script.commands; defs = record { defs = script.defs.defs; datatypes = ds } }) (append-nil script.defs.datatypes)
 
 -- so the script has no datatype more

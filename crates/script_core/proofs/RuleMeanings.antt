@@ -50,6 +50,7 @@ use Rattle.script_core.specs.Steps.{is_exit, judge_own_tree, judge_tree}
 use Rattle.script_core.proofs.KeptNumbers.{each_unused, group_earlier, part_earlier, same_earlier}
 use Rattle.script_core.proofs.NamedLogic.{logic_of_parts}
 use Rattle.script_core.proofs.NamedWalks.{defined_joined}
+use Rattle.script_core.proofs.PlainParts.{with_none}
 use Rattle.script_core.proofs.QuietRules.{none-fragment}
 use Rattle.script_core.proofs.SoundNumbers.{AscendFrom, AscendTo, ascend_first, ascend_from}
 use Rattle.script_core.proofs.GroupNumbers.{datatypes_joined, group_declared}
@@ -308,7 +309,7 @@ group_or_none (kept.DeclareDatatypes ts) = inl (refl, refl)
 group_or_none c = inr refl
 
 none_more : (script : Kept) (ts : List Datatype) → ts ≡ [] → with_datatypes script ts ≡ script
-none_more script ts e = ap (with_datatypes script) e ∙ ap (λ ds. record { commands = script.commands; defs = record { defs = script.defs.defs; datatypes = ds } }) (append-nil script.defs.datatypes)
+none_more script ts e = ap (with_datatypes script) e ∙ with_none script
 
 no_part : (script after : Kept) (ds : List Def) → ds ≡ [] → KeepsPart script ds after → after ≡ script
 no_part script after [] e (n, k) = k ∙ (ap (with_definitions script) (take_none n) ∙ ap (λ xs. record { commands = script.commands; defs = record { defs = xs; datatypes = script.defs.datatypes } }) (append-nil script.defs.defs))

@@ -1,4 +1,4 @@
-//! What the commands that change something make of the environment, once their form and mode are judged (SMT-LIB 2.6,
+//! What the commands that change something make of the environment, once their mode is judged (SMT-LIB 2.6,
 //! sections 4.1 and 4.2).
 ghost use Rattle.std.specs.Prelude.{◌≡◌, ◌↔◌, ◌==◌, ◌<◌, [], true, false, length, map, IfErr, IfOk, IsTrue, OnOk};
 ghost use Rattle.std.specs.List.{All, list_any};

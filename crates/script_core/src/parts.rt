@@ -1,4 +1,4 @@
-//! What a command makes of the environment, once its form and mode are judged (SMT-LIB 2.6, section 4.2).
+//! What a command makes of the environment, once its mode is judged (SMT-LIB 2.6, section 4.2).
 ghost use Rattle.std.specs.Prelude.{◌≡◌, IfOk, OnErr, false};
 ghost use Rattle.cmd_grammar.specs.CommandViews.{command_from};
 ghost use Rattle.script_core.specs.Effects.{BeginsNames, IsDeclaredNamed, IsInMode, MeetsParts, seen_by};
@@ -19,7 +19,7 @@ use crate::unchanging::unchanging;
 use cmd_grammar::RawCommandKind;
 use term_store::TypedCommand;
 
-// The same of a command that declares no datatype.
+// Takes a command that declares no datatype, as `take_parts`; the script stays as it was.
 fn take_plain(
     scope: &mut Scope,
     at: u32,
