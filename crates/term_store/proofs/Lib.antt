@@ -1,4 +1,5 @@
 pub mod TextDepths
+pub mod CommandDepths
 pub mod MappedLists
 pub mod Values
 pub mod InternedTerms

@@ -14,6 +14,7 @@ pub mod TermKeys
 pub mod Command
 pub mod Definitions
 pub mod DefinitionTables
+pub mod CommandText
 pub mod Script
 pub mod LentDefs
 pub mod Declarations

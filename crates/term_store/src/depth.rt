@@ -1,19 +1,21 @@
 //! The depth of the canonical text of a node, from those of its parts.
 ghost use Rattle.std.specs.Prelude.{◌≡◌, List, [], ℕ, map, max, suc};
 ghost use Rattle.sort_store.specs.Tree as sorts;
-ghost use Rattle.term_store.specs.CanonicalText.{node_text, term_texts, binding_texts, case_texts, note_text, note_texts, var_texts, function_text, applied_head, pattern_text, sort_text, term_text};
+ghost use Rattle.term_store.specs.CanonicalText.{node_text, term_texts, binding_texts, case_texts, note_text, note_texts, var_texts, function_text, applied_head, pattern_text, sort_text, term_text, value_texts};
 ghost use Rattle.term_store.specs.Depth.{saturated, nesting, nesting_all, list_depth};
 ghost use Rattle.term_store.specs.NumberedNodes.{numbered_node, numbered_note, numbered_notes, terms, cases};
 ghost use Rattle.term_store.specs.Term.{app, trees, case_trees, note_tree, note_trees, node_tree, plain_var, tree};
+ghost use Rattle.term_store.specs.Value.{unplaced_value};
 
 use crate::parts::{Applied, Fun, Pattern};
 use crate::term::{Note, TermNode, TermRef};
 use crate::value::depth_of_value;
 use lex_core::NameId;
+use sexp_core::Tree;
 use sort_store::SortRef;
 
 // The deepest of some terms.
-fn deepest(args: &[TermRef]) -> u32
+pub(crate) fn deepest(args: &[TermRef]) -> u32
     ensures { result ≡ saturated (nesting_all (term_texts (trees (terms args.now)))) }
 {
     let mut deep = 0;
@@ -44,7 +46,7 @@ fn depth_of_function(head: &Applied) -> u32
 
 // The sort of a variable or of an application.
 #[tactic(auto, using(crate::proofs::TextDepths::text_words))]
-fn depth_of_sort(sort: &SortRef) -> u32
+pub(crate) fn depth_of_sort(sort: &SortRef) -> u32
     ensures { result ≡ saturated (nesting (sort_text [] (sorts.tree sort.now))) }
 {
     sort.print_depth()
@@ -85,9 +87,9 @@ fn deepest_binding(values: &[TermRef]) -> u32
     deepest(values).saturating_add(1)
 }
 
-// The variables of a quantifier.
+// The variables of a quantifier, or the parameters of a function.
 #[tactic(auto, using(crate::proofs::TextDepths::text_words))]
-fn deepest_var(vars: &[(NameId, SortRef)]) -> u32
+pub(crate) fn deepest_var(vars: &[(NameId, SortRef)]) -> u32
     ensures { result ≡ saturated (nesting_all (var_texts (map plain_var vars.now))) }
 {
     let mut deep = 0;
@@ -124,6 +126,17 @@ fn deepest_case(arms: &[(Pattern, TermRef)]) -> u32
     deep
 }
 
+// The value of an attribute, if there is one.
+#[tactic(auto, using(crate::proofs::TextDepths::text_words))]
+pub(crate) fn depth_of_attribute(value: &Option<Tree>) -> u32
+    ensures { result ≡ saturated (nesting_all (value_texts (unplaced_value value.now))) }
+{
+    match value {
+        Some(value) => depth_of_value(value),
+        None => 0,
+    }
+}
+
 // One attribute, without a list round it.
 #[tactic(auto, using(crate::proofs::TextDepths::text_words))]
 fn depth_of_note(note: &Note) -> u32
@@ -132,10 +145,7 @@ fn depth_of_note(note: &Note) -> u32
     match note {
         Note::Named { no: _, name: _ } => 0,
         Note::Pattern(args) => deepest(args).saturating_add(1),
-        Note::Other { key: _, value } => match value {
-            Some(value) => depth_of_value(value),
-            None => 0,
-        },
+        Note::Other { key: _, value } => depth_of_attribute(value),
     }
 }
 

@@ -3,6 +3,7 @@
 #![tactic(auto)]
 
 mod command;
+mod command_depth;
 mod defs;
 mod depth;
 mod equality;
@@ -18,6 +19,7 @@ mod tests;
 mod value;
 
 pub use command::{Constructor, Datatype, Def, Field, TypedCommand};
+pub use command_depth::depth_of_command;
 pub use defs::Defs;
 pub use equality::same_term;
 pub use laws::text_laws;

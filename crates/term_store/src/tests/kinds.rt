@@ -13,15 +13,15 @@ use std::test::Fail;
 
 // What the nodes are made of.
 #[derive(Drop)]
-struct Kit {
-    alloc: Global,
-    a: NameId,
-    b: NameId,
-    int: SortRef,
-    bits: SortRef,
+pub(super) struct Kit {
+    pub(super) alloc: Global,
+    pub(super) a: NameId,
+    pub(super) b: NameId,
+    pub(super) int: SortRef,
+    pub(super) bits: SortRef,
 }
 
-fn name_list(alloc: Global, names: &[NameId]) -> Result<ListOf<NameId>, Fail> {
+pub(super) fn name_list(alloc: Global, names: &[NameId]) -> Result<ListOf<NameId>, Fail> {
     let mut list = ListOf::new(alloc);
     for name in names {
         list.push(*name)?;
@@ -177,7 +177,7 @@ fn node(kit: &Kit, row: u8, x: &TermRef, y: &TermRef) -> Result<TermNode, Fail>
 
 // The term of a row, in which x is a variable and y another variable or the same of another sort.
 #[tactic(auto, using(crate::proofs::InternedTerms::grown_words))]
-fn made(kit: &Kit, store: &mut TermStore, row: u8) -> Result<TermRef, Fail>
+pub(super) fn made(kit: &Kit, store: &mut TermStore, row: u8) -> Result<TermRef, Fail>
     ensures interned { IfOk result (λ t. IsInterned store.new t) }
     ensures grows { IfOk result (λ _. Grows store.old store.new) }
     ensures distinct { IfOk result (λ _. HasNoRepeats store.new) }
@@ -197,7 +197,7 @@ fn same_rows(kit: &Kit, store: &mut TermStore, a: u8, b: u8) -> Result<bool, Fai
     Ok(same_term(&a, &b))
 }
 
-fn make_kit(rt: &impl Abort, alloc: Global, sorts: &mut SortStore) -> Result<Kit, Fail> {
+pub(super) fn make_kit(rt: &impl Abort, alloc: Global, sorts: &mut SortStore) -> Result<Kit, Fail> {
     let mut names = Names::new(alloc)?;
     assert!(rt; names.count() < 1000);
     let a = names.intern(b"a")?;

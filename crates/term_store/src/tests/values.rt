@@ -28,7 +28,12 @@ fn last_tree(builder: &mut Builder, toks: &[Tok]) -> Option<Tree>
     last
 }
 
-fn tree_of(rt: &impl Abort, alloc: Global, names: &mut Names, text: &[u8]) -> Option<Tree> {
+pub(super) fn tree_of(
+    rt: &impl Abort,
+    alloc: Global,
+    names: &mut Names,
+    text: &[u8],
+) -> Option<Tree> {
     assert!(rt; text.len() < 100);
     assert!(rt; names.count() < 1000);
     let Ok(toks) = tokens_of_text(alloc, names, text) else {
