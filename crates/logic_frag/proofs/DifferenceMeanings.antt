@@ -7,10 +7,9 @@ use Rattle.std.proofs.lemmas.List.Elements.{All-nil, All-cons, All-head, All-tai
 use Rattle.std.proofs.lemmas.List.Folds.{list_any-from_Any, Any-from_list_any}
 use Rattle.sort_store.specs.Tree.{Sort}
 use Rattle.sort_store.specs.declared.head.DeclNo.{DeclNo}
-use Rattle.term_store.specs.declared.command.Def.{Def}
+use Rattle.term_store.specs.Command.{PlainDef}
 use Rattle.term_store.specs.declared.parts.Fun.{Fun}
 use Rattle.term_store.specs.declared.parts.Fun.TheVariants as fun
-use Rattle.term_store.specs.Definitions.{def_at}
 use Rattle.term_store.specs.Term.{PlainTerm, Terms, term, lit, var, app, let_in, quant, match_on, ann, no_terms, more_terms, plain_sort}
 use Rattle.logic_frag.specs.declared.logic.ArrayPart.TheVariants as arrays
 use Rattle.logic_frag.specs.DifferenceTests.{has_int, is_absent, is_own, is_declared_only, is_unknown, is_unknown_at, is_atom, is_coefficient, pair_term, is_shifted, is_offset_named, is_offset, is_difference_named, is_difference, is_side, is_difference_and, is_difference_pair, are_comparable, is_relation, is_outside_application, is_outside_named, is_other_integer, is_outside}
@@ -19,7 +18,7 @@ use Rattle.logic_frag.specs.IntegerTerms.{HasSortInt, each_seen_in, TermApplies,
 use Rattle.logic_frag.specs.IntegerTests.{theory_text, is_text, is_zero_text, is_missing, coefficient}
 use Rattle.logic_frag.specs.Occurrences.{Occurrence, Scope, no_variables, let_variable, quantified, matched, seen_in, let_value, is_quantified}
 use Rattle.logic_frag.specs.SortSearch.{is_element}
-use Rattle.logic_frag.specs.StandsFor.{Context}
+use Rattle.logic_frag.specs.StandsFor.{Context, definition_at}
 use Rattle.logic_frag.specs.Weights.{end_of}
 use Rattle.logic_frag.proofs.IntegerMeanings.{applied_last, coefficient_known, is_end, known_coefficient, named_text, text_named}
 use Rattle.logic_frag.proofs.OtherArrays.{both_are, both_true, is_int, not_decides}
@@ -82,7 +81,7 @@ quantified_no_value (matched m scope) n h = bound (n == m) (quantified_no_value 
     bound true further e = refl
     bound false further e = further e
 
-absent_test : (o : Option Def) → IsTrue (is_absent o) ↔ (o ≡ None)
+absent_test : (o : Option PlainDef) → IsTrue (is_absent o) ↔ (o ≡ None)
 absent_test None = (λ h. refl, λ h. refl)
 absent_test (Some d) = (λ h. cc, λ h. cc)
 
@@ -127,7 +126,7 @@ module _ (context : Context) (lower : AppliesLower context.kept) where
   declared_test fun.Theory = search rules
   declared_test (fun.Tester d) = search rules
   declared_test (fun.Declared d) =
-      and_decides (is_absent (def_at context.kept d)) (not (is_own context.own d)) (def_at context.kept d ≡ None) (Contains context.own d → ⊥) (absent_test (def_at context.kept d)) (not_decides (is_own context.own d) (Contains context.own d) (own_test context.own d))
+      and_decides (is_absent (definition_at context.kept d)) (not (is_own context.own d)) (definition_at context.kept d ≡ None) (Contains context.own d → ⊥) (absent_test (definition_at context.kept d)) (not_decides (is_own context.own d) (Contains context.own d) (own_test context.own d))
 
   unknown_test : (scope : Scope) (t : PlainTerm) → IsTrue (is_unknown context scope t) ↔ IsUnknown context scope t
   unknown_test scope (term u s (app f no_terms)) = declared_test f.fun

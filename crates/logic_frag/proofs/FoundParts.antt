@@ -72,18 +72,18 @@ found_in_command kind (command.get_value ts) = found_terms kind ts
 found_in_command kind _ = refl
 
 -- a test that decides a kind, and the command's terms of the kind
-has_term : (kind : PlainTerm → Bool) (Kind : PlainTerm → Type 0) → ((t : PlainTerm) → IsTrue (kind t) ↔ Kind t) → (c : PlainCommand) → IsTrue (command_has_part kind c) ↔ HasTerm c (λ o. Kind o.its)
-has_term kind Kind decides c = (there_is, is_found)
+pub has_term : (test : Occurrence → Bool) (Kind : Occurrence → Type 0) → ((o : Occurrence) → IsTrue (test o) ↔ Kind o) → (c : PlainCommand) → IsTrue (list_any test (occurrences_in c)) ↔ HasTerm c Kind
+has_term test Kind decides c = (there_is, is_found)
   where
-    there_is : IsTrue (command_has_part kind c) → HasTerm c (λ o. Kind o.its)
+    there_is : IsTrue (list_any test (occurrences_in c)) → HasTerm c Kind
     there_is h =
-        let any = Any-from_list_any (of_kind kind) (occurrences_in c) (found_in_command kind c ∙ h) in
-        record { its = any.1; contained = (any.0, any.2, any.3); kind = (decides any.1.its).0 any.4 }
+        let any = Any-from_list_any test (occurrences_in c) h in
+        record { its = any.1; contained = (any.0, any.2, any.3); kind = (decides any.1).0 any.4 }
 
-    is_found : HasTerm c (λ o. Kind o.its) → IsTrue (command_has_part kind c)
+    is_found : HasTerm c Kind → IsTrue (list_any test (occurrences_in c))
     is_found h =
         let at = h.contained in
-        sym (found_in_command kind c) ∙ list_any-from_Any (of_kind kind) (occurrences_in c) (at.0, h.its, at.1, at.2, (decides h.its.its).1 h.kind)
+        list_any-from_Any test (occurrences_in c) (at.0, h.its, at.1, at.2, (decides h.its).1 h.kind)
 
 quantifier_decides : (t : PlainTerm) → IsTrue (is_quantifier t) ↔ IsQuantifier t
 quantifier_decides (term u s (lit k n)) = search rules
@@ -95,4 +95,5 @@ quantifier_decides (term u s (match_on t cs)) = search rules
 quantifier_decides (term u s (ann b ns)) = search rules
 
 pub has_quantified : (b : Bool) (c : PlainCommand) → b ≡ command_has_part is_quantifier c → IsTrue b ↔ HasTerm c (λ o. IsQuantifier o.its)
-has_quantified b c e = subst (λ x. IsTrue x ↔ HasTerm c (λ o. IsQuantifier o.its)) (sym e) (has_term is_quantifier IsQuantifier quantifier_decides c)
+has_quantified b c e =
+    subst (λ x. IsTrue x ↔ HasTerm c (λ o. IsQuantifier o.its)) (found_in_command is_quantifier c ∙ sym e) (has_term (of_kind is_quantifier) (λ o. IsQuantifier o.its) (λ o. quantifier_decides o.its) c)

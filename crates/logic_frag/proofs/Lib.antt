@@ -12,3 +12,5 @@ pub mod IntegerMeanings
 pub mod Pairs
 pub mod DifferenceMeanings
 pub mod FirstBroken
+pub mod KnownDefinitions
+pub mod DecidedRules

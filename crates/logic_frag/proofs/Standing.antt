@@ -1,24 +1,17 @@
 -- A term stands for one last term alone, which the steps one after the other lead to.
-use Rattle.std.proofs.Common.{◌≡◌, Bool, true, false, List, [], ◌∷◌, Option, Some, None, map, refl, sym, ap, subst, ◌∙◌, ℕ, suc, zero, ◌<◌, arith}
-use Rattle.std.specs.Prelude.{option_map}
-use Rattle.sort_store.specs.Tree.{NumberedSort}
-use Rattle.term_store.specs.declared.command.Def.{Def}
+use Rattle.std.proofs.Common.{◌≡◌, Bool, true, false, List, [], ◌∷◌, Option, Some, None, refl, sym, ap, subst, ◌∙◌, ℕ, suc, zero, ◌<◌, arith}
+use Rattle.sort_store.specs.Tree.{Sort}
 use Rattle.term_store.specs.declared.parts.Fun.{Fun}
 use Rattle.term_store.specs.declared.parts.Fun.TheVariants as fun
-use Rattle.term_store.specs.Command.{PlainDef, plain_def}
-use Rattle.term_store.specs.Definitions.{def_at}
-use Rattle.term_store.specs.Term.{PlainTerm, term, lit, var, app, let_in, quant, match_on, ann, no_terms, more_terms, tree, plain_var}
+use Rattle.term_store.specs.Command.{PlainDef}
+use Rattle.term_store.specs.Term.{PlainTerm, term, lit, var, app, let_in, quant, match_on, ann, no_terms, more_terms}
 use Rattle.logic_frag.specs.Following.{body_without, constant_body, body_of, next_of, AppliesLower, Ends}
 use Rattle.logic_frag.specs.Occurrences.{Occurrence, Scope, no_variables, seen_in}
-use Rattle.logic_frag.specs.StandsFor.{Context, IsConstantFor, StandsForNext, StandsFor, itself, further}
+use Rattle.logic_frag.specs.StandsFor.{Context, IsConstantFor, StandsForNext, StandsFor, definition_at, itself, further}
 use Rattle.logic_frag.proofs.Weights.{falls, found_number, measure_falls, weight_stays, without_params}
 use Rattle.logic_frag.specs.Weights.{bodies_size, end_of, followed, next_or, measure, step_bound, weight}
 
-no_vars : (ps : List (ℕ × NumberedSort)) → map plain_var ps ≡ [] → ps ≡ []
-no_vars [] e = refl
-no_vars (p ∷ ps) e = cc
-
-params_none : (ps : List (ℕ × NumberedSort)) (recursive : Bool) (t : PlainTerm) (o : Occurrence) → body_without ps recursive t ≡ Some o → ps ≡ []
+params_none : (ps : List (ℕ × Sort)) (recursive : Bool) (t : PlainTerm) (o : Occurrence) → body_without ps recursive t ≡ Some o → ps ≡ []
 params_none [] recursive t o e = refl
 params_none (p ∷ ps) false t o e = cc
 params_none (p ∷ ps) true t o e = cc
@@ -28,18 +21,18 @@ module _ (context : Context) where
   constant_stands : (f : Fun) (o : Occurrence) → body_of context.kept f ≡ Some o → IsConstantFor context f o.its × (o.scope ≡ no_variables)
   constant_stands fun.Theory o e = cc
   constant_stands (fun.Tester d) o e = cc
-  constant_stands (fun.Declared d) o e = found (def_at context.kept d) refl e
+  constant_stands (fun.Declared d) o e = found (definition_at context.kept d) refl e
     where
-      found : (at : Option Def) → def_at context.kept d ≡ at → constant_body at ≡ Some o → IsConstantFor context (fun.Declared d) o.its × (o.scope ≡ no_variables)
+      found : (at : Option PlainDef) → definition_at context.kept d ≡ at → constant_body at ≡ Some o → IsConstantFor context (fun.Declared d) o.its × (o.scope ≡ no_variables)
       found None same h = cc
       found (Some def) same h =
-          let without = without_params def.params def.recursive (tree def.body) o h in
-          let number : d ≡ def.no = found_number context.kept.defs d def same in (
+          let without = without_params def.params def.recursive def.body o h in
+          let number : d ≡ def.no = found_number context.kept d def same in (
             record {
-              its = plain_def def;
+              its = def;
               declared = ap fun.Declared number;
-              kept = ap (λ n. option_map plain_def (def_at context.kept n)) (sym number) ∙ ap (option_map plain_def) same;
-              no_params = ap (map plain_var) (params_none def.params def.recursive (tree def.body) o h);
+              kept = ap (definition_at context.kept) (sym number) ∙ same;
+              no_params = params_none def.params def.recursive def.body o h;
               not_recursive = without.0;
               body_is = ap (λ (x : Occurrence). x.its) without.1;
             },
@@ -47,18 +40,12 @@ module _ (context : Context) where
           )
 
   stands_constant : (f : Fun) (o : Occurrence) → IsConstantFor context f o.its → o.scope ≡ no_variables → body_of context.kept f ≡ Some o
-  stands_constant f o h e = ap (body_of context.kept) h.declared ∙ found (def_at context.kept h.its.no) h.kept
+  stands_constant f o h e = ap (body_of context.kept) h.declared ∙ ap constant_body h.kept ∙ without h.its.params h.its.recursive h.its.body h.no_params h.not_recursive h.body_is
     where
-      without : (ps : List (ℕ × NumberedSort)) (recursive : Bool) (t : PlainTerm) → map plain_var ps ≡ [] → recursive ≡ false → t ≡ o.its → body_without ps recursive t ≡ Some o
+      without : (ps : List (ℕ × Sort)) (recursive : Bool) (t : PlainTerm) → ps ≡ [] → recursive ≡ false → t ≡ o.its → body_without ps recursive t ≡ Some o
       without [] false t p r b = ap (λ x. Some (seen_in no_variables x)) b ∙ ap (λ s. Some (seen_in s o.its)) (sym e)
       without [] true t p r b = cc
       without (v ∷ ps) recursive t p r b = cc
-
-      found : (at : Option Def) → option_map plain_def at ≡ Some h.its → constant_body at ≡ Some o
-      found None same = cc
-      found (Some def) same =
-          let it : plain_def def ≡ h.its = cc in
-          without def.params def.recursive (tree def.body) (ap (λ (d : PlainDef). d.params) it ∙ h.no_params) (ap (λ (d : PlainDef). d.recursive) it ∙ h.not_recursive) (ap (λ (d : PlainDef). d.body) it ∙ h.body_is)
 
   pub stands_next : (scope : Scope) (t : PlainTerm) (o : Occurrence) → next_of context.kept scope t ≡ Some o → StandsForNext context scope t o
   stands_next scope (term u s (lit k n)) o e = cc
@@ -94,7 +81,7 @@ module _ (context : Context) where
       last_alone n x y r p (subst (λ z. StandsFor context z y) same s) q
 
   -- enough steps lead to the last term
-  followed_ends : (bound n : ℕ) (o : Occurrence) → AppliesLower context.kept → bodies_size context.kept.defs < bound → weight o < bound → measure bound o < n → Ends context o (followed n context.kept o)
+  followed_ends : (bound n : ℕ) (o : Occurrence) → AppliesLower context.kept → bodies_size context.kept < bound → weight o < bound → measure bound o < n → Ends context o (followed n context.kept o)
   followed_ends bound zero o lower large small h = absurd (omega (arith, h))
   followed_ends bound (suc n) o lower large small h = ended (λ next w l. followed_ends bound n next lower large w l) (next_of context.kept o.scope o.its) refl
     where

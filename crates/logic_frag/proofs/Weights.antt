@@ -6,18 +6,18 @@ use Rattle.std.specs.List.{All}
 use Rattle.std.proofs.Math.Nat.{mul-le-mul_right}
 use Rattle.std.proofs.lemmas.Bool.{cases_Bool, eqb-true}
 use Rattle.std.proofs.lemmas.List.Elements.{All-head, All-tail}
-use Rattle.sort_store.specs.Tree.{Sort, NumberedSort}
+use Rattle.sort_store.specs.Tree.{Sort}
 use Rattle.sort_store.specs.declared.head.DeclNo.{DeclNo}
-use Rattle.term_store.specs.declared.command.Def.{Def}
 use Rattle.term_store.specs.declared.parts.Fun.{Fun}
 use Rattle.term_store.specs.declared.parts.Fun.TheVariants as fun
-use Rattle.term_store.specs.Definitions.{Definitions, def_at, def_in}
+use Rattle.term_store.specs.Command.{PlainDef}
 use Rattle.term_store.specs.SoundTerms.{IsFunBelow, AppliesBelow, NodeAppliesBelow, EachAppliesBelow, CasesApplyBelow}
-use Rattle.term_store.specs.Term.{PlainTerm, PlainNode, Terms, Cases, term, lit, var, app, let_in, quant, match_on, ann, no_terms, more_terms, no_cases, more_cases, NumberedTerm, tree, trees}
+use Rattle.term_store.specs.Term.{PlainTerm, PlainNode, Terms, Cases, term, lit, var, app, let_in, quant, match_on, ann, no_terms, more_terms, no_cases, more_cases, NumberedTerm, trees}
 use Rattle.term_store.specs.NumberedNodes.{terms}
 use Rattle.logic_frag.specs.Following.{body_without, constant_body, body_of, application_next, next_of, AppliesLower}
 use Rattle.logic_frag.specs.Weights.{bodies_size, cases_rank, fun_rank, measure, node_rank, rank, scope_rank, scope_size, term_rank, term_size, terms_rank, terms_size, weight}
 use Rattle.logic_frag.specs.Occurrences.{Occurrence, Scope, no_variables, let_variable, quantified, matched, seen_in, let_value, with_let}
+use Rattle.logic_frag.specs.StandsFor.{definition_at}
 
 size-with_let : (vs : List ℕ) (ts : Terms (Unit {0}) Sort) (outer scope : Scope) → scope_size (with_let vs ts outer scope) ≤ max (scope_size outer + terms_size ts) (scope_size scope)
 size-with_let [] ts outer scope = omega arith
@@ -105,75 +105,75 @@ mutual
   below_cases no_cases n h = omega arith
   below_cases (more_cases p t cs) n h = omega (arith, below_term t n h.0, below_cases cs n h.1)
 
-abbrev pub IsLower : Def → Type 0
-IsLower d = d.recursive ≡ false → AppliesBelow d.no.0 (tree d.body)
+abbrev pub IsLower : PlainDef → Type 0
+IsLower d = d.recursive ≡ false → AppliesBelow d.no.0 d.body
 
 -- what is known of a definition that is found
-record IsKept (ds : List Def) (n : ℕ) (d : Def) : Type 0 where
-  number : n ≡ d.no.0
-  small : term_size (tree d.body) ≤ bodies_size ds
+record IsKept (ds : List PlainDef) (n : DeclNo) (d : PlainDef) : Type 0 where
+  number : n.0 ≡ d.no.0
+  small : term_size d.body ≤ bodies_size ds
   lower : IsLower d
 
-def_if : (b : Bool) (x y : Option Def) → b ≡ true → (if b then x else y) ≡ x
+def_if : (b : Bool) (x y : Option PlainDef) → b ≡ true → (if b then x else y) ≡ x
 def_if true x y e = refl
 def_if false x y e = cc
 
-def_unless : (b : Bool) (x y : Option Def) → b ≡ false → (if b then x else y) ≡ y
+def_unless : (b : Bool) (x y : Option PlainDef) → b ≡ false → (if b then x else y) ≡ y
 def_unless false x y e = refl
 def_unless true x y e = cc
 
-found_def : (ds : List Def) (n : ℕ) (d : Def) → All IsLower ds → def_in ds n ≡ Some d → IsKept ds n d
+found_def : (ds : List PlainDef) (n : DeclNo) (d : PlainDef) → All IsLower ds → definition_at ds n ≡ Some d → IsKept ds n d
 found_def [] n d all e = cc
-found_def (c ∷ ds) n d all e = elim (cases_Bool (n == c.no.0)) [
+found_def (c ∷ ds) n d all e = elim (cases_Bool (n.0 == c.no.0)) [
   | inl same ↦
-      let it : c ≡ d = let s : Some c ≡ Some d = sym (def_if (n == c.no.0) (Some c) (def_in ds n) same) ∙ e in cc in
-      let there : IsKept (c ∷ ds) n c = record { number = eqb-true n c.no.0 same; small = omega arith; lower = All-head IsLower c ds all } in
+      let it : c ≡ d = let s : Some c ≡ Some d = sym (def_if (n.0 == c.no.0) (Some c) (definition_at ds n) same) ∙ e in cc in
+      let there : IsKept (c ∷ ds) n c = record { number = eqb-true n.0 c.no.0 same; small = omega arith; lower = All-head IsLower c ds all } in
       subst (IsKept (c ∷ ds) n) it there
   | inr other ↦
-      let inner = found_def ds n d (All-tail IsLower c ds all) (sym (def_unless (n == c.no.0) (Some c) (def_in ds n) other) ∙ e) in
+      let inner = found_def ds n d (All-tail IsLower c ds all) (sym (def_unless (n.0 == c.no.0) (Some c) (definition_at ds n) other) ∙ e) in
       record { number = inner.number; small = omega (arith, inner.small); lower = inner.lower }
 ]
 
-pub without_params : (ps : List (ℕ × NumberedSort)) (recursive : Bool) (t : PlainTerm) (o : Occurrence) → body_without ps recursive t ≡ Some o → (recursive ≡ false) × (seen_in no_variables t ≡ o)
+pub without_params : (ps : List (ℕ × Sort)) (recursive : Bool) (t : PlainTerm) (o : Occurrence) → body_without ps recursive t ≡ Some o → (recursive ≡ false) × (seen_in no_variables t ≡ o)
 without_params [] false t o e = (refl, cc)
 without_params [] true t o e = cc
 without_params (p ∷ ps) false t o e = cc
 without_params (p ∷ ps) true t o e = cc
 
 -- the number under which a definition is found
-pub found_number : (ds : List Def) (n : DeclNo) (d : Def) → def_in ds n.0 ≡ Some d → n ≡ d.no
+pub found_number : (ds : List PlainDef) (n : DeclNo) (d : PlainDef) → definition_at ds n ≡ Some d → n ≡ d.no
 found_number [] n d e = cc
 found_number (c ∷ ds) n d e = elim (cases_Bool (n.0 == c.no.0)) [
   | inl same ↦
-      let it : c ≡ d = let s : Some c ≡ Some d = sym (def_if (n.0 == c.no.0) (Some c) (def_in ds n.0) same) ∙ e in cc in
+      let it : c ≡ d = let s : Some c ≡ Some d = sym (def_if (n.0 == c.no.0) (Some c) (definition_at ds n) same) ∙ e in cc in
       let number : n ≡ c.no = ap (λ (k : ℕ). record { 0 = k }) (eqb-true n.0 c.no.0 same) in
-      subst (λ (x : Def). n ≡ x.no) it number
-  | inr other ↦ found_number ds n d (sym (def_unless (n.0 == c.no.0) (Some c) (def_in ds n.0) other) ∙ e)
+      subst (λ (x : PlainDef). n ≡ x.no) it number
+  | inr other ↦ found_number ds n d (sym (def_unless (n.0 == c.no.0) (Some c) (definition_at ds n) other) ∙ e)
 ]
 
 -- what a constant leads to
-record IsBodyBelow (kept : Definitions) (n : ℕ) (o : Occurrence) : Type 0 where
+record IsBodyBelow (kept : List PlainDef) (n : ℕ) (o : Occurrence) : Type 0 where
   lower : rank o < n
-  small : weight o ≤ bodies_size kept.defs
+  small : weight o ≤ bodies_size kept
 
-body_below : (kept : Definitions) (f : Fun) (o : Occurrence) → AppliesLower kept → body_of kept f ≡ Some o → IsBodyBelow kept (fun_rank f) o
+body_below : (kept : List PlainDef) (f : Fun) (o : Occurrence) → AppliesLower kept → body_of kept f ≡ Some o → IsBodyBelow kept (fun_rank f) o
 body_below kept fun.Theory o all e = cc
 body_below kept (fun.Tester d) o all e = cc
-body_below kept (fun.Declared d) o all e = found (def_at kept d) refl e
+body_below kept (fun.Declared d) o all e = found (definition_at kept d) refl e
   where
-    found : (at : Option Def) → def_at kept d ≡ at → constant_body at ≡ Some o → IsBodyBelow kept (suc d.0) o
+    found : (at : Option PlainDef) → definition_at kept d ≡ at → constant_body at ≡ Some o → IsBodyBelow kept (suc d.0) o
     found None same h = cc
     found (Some def) same h =
-        let known = found_def kept.defs d.0 def all same in
-        let without = without_params def.params def.recursive (tree def.body) o h in
-        let below = below_term (tree def.body) def.no.0 (known.lower without.0) in
+        let known = found_def kept d def all same in
+        let without = without_params def.params def.recursive def.body o h in
+        let below = below_term def.body def.no.0 (known.lower without.0) in
         subst (IsBodyBelow kept (suc d.0)) without.1 (record { lower = omega (arith, below, known.number); small = omega (arith, known.small) })
 
 -- one step
-pub record Falls (kept : Definitions) (o next : Occurrence) : Type 0 where
-  pub smaller : (rank next < rank o) × (weight next ≤ bodies_size kept.defs) ⊎ (rank next ≤ rank o) × (weight next < weight o)
+pub record Falls (kept : List PlainDef) (o next : Occurrence) : Type 0 where
+  pub smaller : (rank next < rank o) × (weight next ≤ bodies_size kept) ⊎ (rank next ≤ rank o) × (weight next < weight o)
 
-pub falls : (kept : Definitions) (scope : Scope) (t : PlainTerm) (o : Occurrence) → AppliesLower kept → next_of kept scope t ≡ Some o → Falls kept (seen_in scope t) o
+pub falls : (kept : List PlainDef) (scope : Scope) (t : PlainTerm) (o : Occurrence) → AppliesLower kept → next_of kept scope t ≡ Some o → Falls kept (seen_in scope t) o
 falls kept scope (term u s (lit k n)) o all e = cc
 falls kept scope (term u s (var n)) o all e = record { smaller = inr (omega (arith, value_rank scope n o e), omega (arith, value_size scope n o e)) }
 falls kept scope (term u s (app f no_terms)) o all e =
@@ -190,7 +190,7 @@ falls kept scope (term u s (ann b ns)) o all e =
     let it : seen_in scope b ≡ o = cc in
     subst (Falls kept (seen_in scope (term u s (ann b ns)))) it (record { smaller = inr (omega arith, omega arith) })
 
-pub measure_falls : (kept : Definitions) (o next : Occurrence) (bound : ℕ) → bodies_size kept.defs < bound → weight o < bound → Falls kept o next → measure bound next < measure bound o
+pub measure_falls : (kept : List PlainDef) (o next : Occurrence) (bound : ℕ) → bodies_size kept < bound → weight o < bound → Falls kept o next → measure bound next < measure bound o
 measure_falls kept o next bound large small h = elim h.smaller [
   | inl lower ↦ product_falls (rank next) (rank o) bound (weight next) (weight o) lower.0 (omega (arith, lower.1))
   | inr less ↦ product_stays (rank next) (rank o) bound (weight next) (weight o) less.0 less.1
@@ -205,12 +205,12 @@ measure_falls kept o next bound large small h = elim h.smaller [
     product_stays : (a b c v w : ℕ) → a ≤ b → v < w → a * c + v < b * c + w
     product_stays a b c v w h l = omega (arith, product_le a b c h, l)
 
-pub weight_stays : (kept : Definitions) (o next : Occurrence) (bound : ℕ) → bodies_size kept.defs < bound → weight o < bound → Falls kept o next → weight next < bound
+pub weight_stays : (kept : List PlainDef) (o next : Occurrence) (bound : ℕ) → bodies_size kept < bound → weight o < bound → Falls kept o next → weight next < bound
 weight_stays kept o next bound large small h = elim h.smaller [
   | inl lower ↦ omega (arith, lower.1)
   | inr less ↦ omega (arith, less.1)
 ]
 
-pub arguments_end : (kept : Definitions) (f : Fun) (ts : List NumberedTerm) → 1 ≤ length ts → application_next kept f (trees (terms ts)) ≡ None
+pub arguments_end : (kept : List PlainDef) (f : Fun) (ts : List NumberedTerm) → 1 ≤ length ts → application_next kept f (trees (terms ts)) ≡ None
 arguments_end kept f [] l = absurd (omega (arith, l))
 arguments_end kept f (t ∷ ts) l = refl

@@ -3,23 +3,22 @@ use Rattle.std.specs.Prelude.{ℕ, ◌==◌, Bool, true, false, ◌||◌, ◌&&�
 use Rattle.std.specs.List.{list_any, list_all}
 use Rattle.sort_store.specs.Tree.{Sort}
 use Rattle.sort_store.specs.declared.head.DeclNo.{DeclNo}
-use Rattle.term_store.specs.declared.command.Def.{Def}
+use Rattle.term_store.specs.Command.{PlainDef}
 use Rattle.term_store.specs.declared.parts.Fun.{Fun}
 use Rattle.term_store.specs.declared.parts.Fun.TheVariants as fun
-use Rattle.term_store.specs.Definitions.{def_at}
 use Rattle.term_store.specs.Term.{PlainTerm, Terms, term, var, app, no_terms, more_terms, plain_sort}
 use Rattle.logic_frag.specs.declared.logic.ArrayPart.TheVariants as arrays
 use Rattle.logic_frag.specs.IntegerTerms.{each_seen_in}
 use Rattle.logic_frag.specs.IntegerTests.{coefficient, is_missing, is_text, theory_text}
 use Rattle.logic_frag.specs.Occurrences.{Occurrence, Scope, is_quantified, seen_in}
 use Rattle.logic_frag.specs.SortSearch.{is_element}
-use Rattle.logic_frag.specs.StandsFor.{Context}
+use Rattle.logic_frag.specs.StandsFor.{Context, definition_at}
 use Rattle.logic_frag.specs.Weights.{end_of}
 
 abbrev pub has_int : Occurrence → Bool
 has_int o = is_element arrays.Ints (plain_sort o.its)
 
-abbrev pub is_absent : Option Def → Bool
+abbrev pub is_absent : Option PlainDef → Bool
 is_absent None = true
 is_absent (Some d) = false
 
@@ -27,7 +26,7 @@ abbrev pub is_own : List DeclNo → DeclNo → Bool
 is_own own d = list_any (λ (e : DeclNo). d.0 == e.0) own
 
 abbrev pub is_declared_only : Context → Fun → Bool
-is_declared_only context (fun.Declared d) = is_absent (def_at context.kept d) && not (is_own context.own d)
+is_declared_only context (fun.Declared d) = is_absent (definition_at context.kept d) && not (is_own context.own d)
 is_declared_only context f = false
 
 abbrev pub is_unknown_constant : Context → Fun → Terms (Unit {0}) Sort → Bool

@@ -1,12 +1,11 @@
 -- The rules of the fragment of a logic: for each code when a command breaks its rule.
-use Rattle.std.specs.Prelude.{◌≡◌, ℕ, ◌<◌, false, List, [], ◌∷◌, length, map, Option, Some, None}
+use Rattle.std.specs.Prelude.{◌≡◌, ◌⊎◌, ℕ, ◌<◌, false, List, [], ◌∷◌, length, map, Option, Some, None}
 use Rattle.std.specs.List.{Contains}
 use Rattle.sig_table.specs.declared.code.Code.{Code}
 use Rattle.sig_table.specs.declared.code.Code.TheVariants as code
 use Rattle.sort_store.specs.Tree.{Sort}
 use Rattle.term_store.specs.Command.{PlainCommand, PlainDef}
 use Rattle.term_store.specs.Command as command
-use Rattle.term_store.specs.Definitions.{Definitions}
 use Rattle.term_store.specs.Term.{PlainTerm, term, quant}
 use Rattle.logic_frag.specs.declared.logic.NumPart.TheVariants as ints
 use Rattle.logic_frag.specs.Logics.{Description}
@@ -57,7 +56,7 @@ own_definitions (command.define_funs_rec ds) = ds
 own_definitions _ = []
 
 -- what the terms of the command are judged with
-abbrev pub context_of : List (List ℕ) → Definitions → PlainCommand → Context
+abbrev pub context_of : List (List ℕ) → List PlainDef → PlainCommand → Context
 context_of texts kept c = record { texts = texts; kept = kept; own = map (λ (d : PlainDef). d.no) (own_definitions c) }
 
 -- the command breaks the rule of the code
@@ -87,7 +86,7 @@ fragment_codes =
 -- the answer is the first of these codes whose rule is broken, and none where none is
 abbrev pub IsFirstBroken : (Code → Type 0) → List Code → Option Code → Type 0
 IsFirstBroken Broken [] answer = answer ≡ None
-IsFirstBroken Broken (c ∷ cs) answer = (Broken c → answer ≡ Some c) × ((Broken c → ⊥) → IsFirstBroken Broken cs answer)
+IsFirstBroken Broken (c ∷ cs) answer = (Broken c × (answer ≡ Some c)) ⊎ ((Broken c → ⊥) × IsFirstBroken Broken cs answer)
 
 -- no rule is broken
 abbrev pub InLogic : Description → Context → PlainCommand → Type 0

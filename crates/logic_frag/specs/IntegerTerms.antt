@@ -6,10 +6,9 @@ use Rattle.sort_store.specs.declared.head.Head.TheVariants as head
 use Rattle.sort_store.specs.Tree.{Sort, sort, no_sorts}
 use Rattle.term_store.specs.declared.parts.Fun.{Fun}
 use Rattle.term_store.specs.declared.parts.Fun.TheVariants as fun
-use Rattle.term_store.specs.Definitions.{def_at}
 use Rattle.term_store.specs.Term.{PlainTerm, Terms, term, lit, var, app, no_terms, more_terms, plain_sort}
 use Rattle.logic_frag.specs.Occurrences.{Occurrence, Scope, is_quantified, seen_in}
-use Rattle.logic_frag.specs.StandsFor.{Context, StandsFor}
+use Rattle.logic_frag.specs.StandsFor.{Context, StandsFor, definition_at}
 
 abbrev pub int : Sort
 int = sort head.Int no_sorts
@@ -93,7 +92,7 @@ IsNonlinear context o = IsNonlinearProduct context o ⊎ IsNonlinearQuotient con
 
 -- a function without a definition
 abbrev pub IsDeclaredOnly : Context → Fun → Type 0
-IsDeclaredOnly context (fun.Declared d) = (def_at context.kept d ≡ None) × (Contains context.own d → ⊥)
+IsDeclaredOnly context (fun.Declared d) = (definition_at context.kept d ≡ None) × (Contains context.own d → ⊥)
 IsDeclaredOnly context _ = ⊥
 
 -- a declared constant, a quantified variable or a parameter

@@ -2,11 +2,10 @@
 -- leads to a body that applies functions with lower numbers alone.
 use Rattle.std.specs.Prelude.{ℕ, suc, zero, ◌+◌, ◌*◌, max, List, [], ◌∷◌, Option, Some, None}
 use Rattle.sort_store.specs.Tree.{Sort}
-use Rattle.term_store.specs.declared.command.Def.{Def}
+use Rattle.term_store.specs.Command.{PlainDef}
 use Rattle.term_store.specs.declared.parts.Fun.{Fun}
 use Rattle.term_store.specs.declared.parts.Fun.TheVariants as fun
-use Rattle.term_store.specs.Definitions.{Definitions}
-use Rattle.term_store.specs.Term.{PlainTerm, PlainNode, Terms, Cases, term, lit, var, app, let_in, quant, match_on, ann, no_terms, more_terms, no_cases, more_cases, tree}
+use Rattle.term_store.specs.Term.{PlainTerm, PlainNode, Terms, Cases, term, lit, var, app, let_in, quant, match_on, ann, no_terms, more_terms, no_cases, more_cases}
 use Rattle.logic_frag.specs.Following.{next_of}
 use Rattle.logic_frag.specs.Occurrences.{Occurrence, Scope, no_variables, let_variable, quantified, matched}
 
@@ -78,9 +77,9 @@ abbrev pub rank : Occurrence → ℕ
 rank o = max (term_rank o.its) (scope_rank o.scope)
 
 -- the size of the largest body that is kept
-abbrev pub bodies_size : List Def → ℕ
+abbrev pub bodies_size : List PlainDef → ℕ
 bodies_size [] = 0
-bodies_size (d ∷ ds) = max (term_size (tree d.body)) (bodies_size ds)
+bodies_size (d ∷ ds) = max (term_size d.body) (bodies_size ds)
 
 -- as one number, below a bound on the weights
 abbrev pub measure : ℕ → Occurrence → ℕ
@@ -92,13 +91,13 @@ next_or None o further = o
 next_or (Some next) o further = further next
 
 -- the last of the terms that the term stands for, if that many steps lead to it
-abbrev pub followed : ℕ → Definitions → Occurrence → Occurrence
+abbrev pub followed : ℕ → List PlainDef → Occurrence → Occurrence
 followed zero kept o = o
 followed (suc n) kept o = next_or (next_of kept o.scope o.its) o (followed n kept)
 
-abbrev pub step_bound : Definitions → Occurrence → ℕ
-step_bound kept o = weight o + bodies_size kept.defs + 1
+abbrev pub step_bound : List PlainDef → Occurrence → ℕ
+step_bound kept o = weight o + bodies_size kept + 1
 
 -- the last of the terms that the term stands for
-unfoldable pub end_of : Definitions → Occurrence → Occurrence
+unfoldable pub end_of : List PlainDef → Occurrence → Occurrence
 end_of kept o = followed (suc (measure (step_bound kept o) o)) kept o

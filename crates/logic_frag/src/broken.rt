@@ -2,7 +2,7 @@
 ghost use Rattle.std.specs.Prelude.{◌≡◌, ◌↔◌, ◌++◌, IfOk, OnOk, IsTrue, map};
 ghost use Rattle.term_store.specs.Command.{PlainDef, plain_command, plain_def};
 ghost use Rattle.logic_frag.specs.FragmentRules.{HasTerm, context_of, own_definitions};
-ghost use Rattle.logic_frag.specs.Following.{AppliesLower, context_in};
+ghost use Rattle.logic_frag.specs.Following.{AppliesLower, context_in, plain_defs};
 ghost use Rattle.logic_frag.specs.IntegerRules.{Breaks};
 ghost use Rattle.logic_frag.specs.SeenTerms.{occurrence};
 ghost use Rattle.logic_frag.specs.Walk.{HasAny, all_in};
@@ -28,7 +28,7 @@ pub enum Rule {
 }
 
 fn is_broken(known: &Known, rule: Rule, seen: &Seen) -> Result<bool, AllocError>
-    requires { AppliesLower known.now.defs.now }
+    requires { AppliesLower (plain_defs known.now.defs.now) }
     ensures { IfOk result (λ broken. IsTrue broken ↔ Breaks rule (context_in known.now) (occurrence seen.now)) }
 {
     match rule {
@@ -39,7 +39,7 @@ fn is_broken(known: &Known, rule: Rule, seen: &Seen) -> Result<bool, AllocError>
 
 // Whether one of the terms, or a term in one, breaks the rule.
 fn any_broken(known: &Known, rule: Rule, roots: Vec<Seen>) -> Result<bool, AllocError>
-    requires { AppliesLower known.now.defs.now }
+    requires { AppliesLower (plain_defs known.now.defs.now) }
     ensures { IfOk result (λ broken. IsTrue broken ↔ HasAny (Breaks rule (context_in known.now)) (all_in (map occurrence roots.items))) }
 {
     let mut pending = roots;
@@ -59,7 +59,7 @@ fn any_broken(known: &Known, rule: Rule, roots: Vec<Seen>) -> Result<bool, Alloc
 
 // Whether a term of the command breaks the rule, by what is known beside it.
 fn has_broken(known: &Known, rule: Rule, command: &TypedCommand) -> Result<bool, AllocError>
-    requires { AppliesLower known.now.defs.now }
+    requires { AppliesLower (plain_defs known.now.defs.now) }
     ensures { IfOk result (λ broken. IsTrue broken ↔ HasTerm (plain_command command.now) (Breaks rule (context_in known.now))) }
 {
     let mut roots = Vec::new(known.alloc);
@@ -97,8 +97,8 @@ fn find_broken(
     defs: &Defs,
     rule: Rule,
 ) -> Result<bool, AllocError>
-    requires { AppliesLower defs.now }
-    ensures { IfOk result (λ broken. IsTrue broken ↔ HasTerm (plain_command command.now) (Breaks rule (context_of names.now defs.now (plain_command command.now)))) }
+    requires { AppliesLower (plain_defs defs.now) }
+    ensures { IfOk result (λ broken. IsTrue broken ↔ HasTerm (plain_command command.now) (Breaks rule (context_of names.now (plain_defs defs.now) (plain_command command.now)))) }
 {
     let own = own_numbers(alloc, command)?;
     let known = Known {
@@ -119,8 +119,8 @@ pub fn has_term_outside(
     defs: &Defs,
     rule: Rule,
 ) -> Result<bool, NoMemory>
-    requires { AppliesLower defs.now }
-    ensures { IfOk result (λ broken. IsTrue broken ↔ HasTerm (plain_command command.now) (Breaks rule (context_of names.now defs.now (plain_command command.now)))) }
+    requires { AppliesLower (plain_defs defs.now) }
+    ensures { IfOk result (λ broken. IsTrue broken ↔ HasTerm (plain_command command.now) (Breaks rule (context_of names.now (plain_defs defs.now) (plain_command command.now)))) }
 {
     match find_broken(alloc, names, command, defs, rule) {
         Ok(broken) => Ok(broken),

@@ -2,7 +2,7 @@
 ghost use Rattle.std.specs.Prelude.{◌≡◌, IfOk, codes, option_map, slice_get};
 ghost use Rattle.std.specs.Option.{option_copied};
 ghost use Rattle.term_store.specs.Term.{tree};
-ghost use Rattle.logic_frag.specs.Following.{AppliesLower, context_in};
+ghost use Rattle.logic_frag.specs.Following.{AppliesLower, context_in, plain_defs};
 ghost use Rattle.logic_frag.specs.IntegerTests.{coefficient, is_text, is_zero_text, minus_argument, numeral, numeral_zero, theory_text};
 ghost use Rattle.logic_frag.specs.Occurrences.{seen_in};
 ghost use Rattle.logic_frag.specs.ScopeFrames.{scope_of};
@@ -92,7 +92,7 @@ pub(crate) fn seen_in(scope: &Scope, term: &TermRef) -> Result<Seen, AllocError>
 
 // For a term that stands for a numeral whether that is zero.
 fn numeral(known: &Known, seen: Seen) -> Result<Option<bool>, AllocError>
-    requires { AppliesLower known.now.defs.now }
+    requires { AppliesLower (plain_defs known.now.defs.now) }
     ensures { IfOk result (λ zero_or. zero_or ≡ numeral (context_in known.now) (occurrence seen)) }
 {
     let last = resolve(known, seen)?;
@@ -101,7 +101,7 @@ fn numeral(known: &Known, seen: Seen) -> Result<Option<bool>, AllocError>
 
 /// For a coefficient whether it is zero. The only error is that memory runs out.
 pub(crate) fn coefficient(known: &Known, seen: Seen) -> Result<Option<bool>, AllocError>
-    requires { AppliesLower known.now.defs.now }
+    requires { AppliesLower (plain_defs known.now.defs.now) }
     ensures { IfOk result (λ zero_or. zero_or ≡ coefficient (context_in known.now) (occurrence seen)) }
 {
     let last = resolve(known, seen)?;

@@ -5,7 +5,7 @@ ghost use Rattle.term_store.specs.declared.parts.Fun.TheVariants as fun;
 ghost use Rattle.term_store.specs.NumberedNodes.{terms};
 ghost use Rattle.term_store.specs.Term.{tree, trees};
 ghost use Rattle.logic_frag.specs.DifferenceTests.{are_comparable, has_int, is_atom, is_coefficient, is_declared_only, is_difference, is_difference_and, is_difference_at, is_difference_named, is_difference_pair, is_offset, is_offset_at, is_offset_named, is_other_integer, is_outside, is_outside_application, is_outside_named, is_own, is_relation, is_shifted, is_side, is_unknown_at, is_unknown_constant, pair_test};
-ghost use Rattle.logic_frag.specs.Following.{AppliesLower, context_in};
+ghost use Rattle.logic_frag.specs.Following.{AppliesLower, context_in, plain_defs};
 ghost use Rattle.logic_frag.specs.IntegerTerms.{each_seen_in};
 ghost use Rattle.logic_frag.specs.IntegerTests.{theory_text};
 ghost use Rattle.logic_frag.specs.Occurrences.{seen_in};
@@ -44,6 +44,7 @@ fn is_own(own: &[DeclNo], no: DeclNo) -> bool
 }
 
 // Whether the function has no definition.
+#[tactic(auto, using(crate::proofs::KnownDefinitions::definition_plain))]
 fn is_declared_only(known: &Known, head: Fun) -> bool
     ensures { result ≡ is_declared_only (context_in known.now) head }
 {
@@ -76,7 +77,7 @@ fn is_unknown(known: &Known, last: &Seen) -> bool
 }
 
 fn is_atom(known: &Known, scope: &Scope, term: &TermRef) -> Result<bool, AllocError>
-    requires { AppliesLower known.now.defs.now }
+    requires { AppliesLower (plain_defs known.now.defs.now) }
     ensures { IfOk result (λ atom. atom ≡ is_atom (context_in known.now) (seen_in (scope_of scope.now) (tree term.now))) }
 {
     if !has_int(scope, term) {
@@ -88,7 +89,7 @@ fn is_atom(known: &Known, scope: &Scope, term: &TermRef) -> Result<bool, AllocEr
 }
 
 fn is_coefficient(known: &Known, scope: &Scope, term: &TermRef) -> Result<bool, AllocError>
-    requires { AppliesLower known.now.defs.now }
+    requires { AppliesLower (plain_defs known.now.defs.now) }
     ensures { IfOk result (λ is. is ≡ is_coefficient (context_in known.now) (seen_in (scope_of scope.now) (tree term.now))) }
 {
     let seen = seen_in(scope, term)?;
@@ -106,7 +107,7 @@ fn is_shifted(
     atom: &TermRef,
     offset: &TermRef,
 ) -> Result<bool, AllocError>
-    requires { AppliesLower known.now.defs.now }
+    requires { AppliesLower (plain_defs known.now.defs.now) }
     ensures { IfOk result (λ is. is ≡ is_shifted (context_in known.now) (seen_in (scope_of scope.now) (tree atom.now)) (seen_in (scope_of scope.now) (tree offset.now))) }
 {
     match is_atom(known, scope, atom) {
@@ -123,7 +124,7 @@ fn is_offset_named(
     first: &TermRef,
     second: &TermRef,
 ) -> Result<bool, AllocError>
-    requires { AppliesLower known.now.defs.now }
+    requires { AppliesLower (plain_defs known.now.defs.now) }
     ensures { IfOk result (λ is. is ≡ is_offset_named (context_in known.now) (theory_text known.now.names.now head.now) (seen_in (scope_of scope.now) (tree first.now)) (seen_in (scope_of scope.now) (tree second.now))) }
 {
     if is_theory(known, head, b"+") {
@@ -146,7 +147,7 @@ fn is_offset_application(
     scope: &Scope,
     args: &[TermRef],
 ) -> Result<bool, AllocError>
-    requires { AppliesLower known.now.defs.now }
+    requires { AppliesLower (plain_defs known.now.defs.now) }
     ensures { IfOk result (λ is. is ≡ pair_test (is_offset_named (context_in known.now) (theory_text known.now.names.now head.now)) (scope_of scope.now) (trees (terms args.now))) }
 {
     match args {
@@ -159,7 +160,7 @@ fn is_offset_application(
 
 #[tactic(auto, using(crate::proofs::WalkedTerms::walk_words))]
 fn is_offset_at(known: &Known, last: &Seen) -> Result<bool, AllocError>
-    requires { AppliesLower known.now.defs.now }
+    requires { AppliesLower (plain_defs known.now.defs.now) }
     ensures { IfOk result (λ is. is ≡ is_offset_at (context_in known.now) (occurrence last.now)) }
 {
     match last.term.node() {
@@ -169,7 +170,7 @@ fn is_offset_at(known: &Known, last: &Seen) -> Result<bool, AllocError>
 }
 
 fn is_offset(known: &Known, scope: &Scope, term: &TermRef) -> Result<bool, AllocError>
-    requires { AppliesLower known.now.defs.now }
+    requires { AppliesLower (plain_defs known.now.defs.now) }
     ensures { IfOk result (λ is. is ≡ is_offset (context_in known.now) (seen_in (scope_of scope.now) (tree term.now))) }
 {
     let seen = seen_in(scope, term)?;
@@ -184,7 +185,7 @@ fn is_difference_named(
     first: &TermRef,
     second: &TermRef,
 ) -> Result<bool, AllocError>
-    requires { AppliesLower known.now.defs.now }
+    requires { AppliesLower (plain_defs known.now.defs.now) }
     ensures { IfOk result (λ is. is ≡ is_difference_named (context_in known.now) (theory_text known.now.names.now head.now) (seen_in (scope_of scope.now) (tree first.now)) (seen_in (scope_of scope.now) (tree second.now))) }
 {
     if !is_theory(known, head, b"-") {
@@ -204,7 +205,7 @@ fn is_difference_application(
     scope: &Scope,
     args: &[TermRef],
 ) -> Result<bool, AllocError>
-    requires { AppliesLower known.now.defs.now }
+    requires { AppliesLower (plain_defs known.now.defs.now) }
     ensures { IfOk result (λ is. is ≡ pair_test (is_difference_named (context_in known.now) (theory_text known.now.names.now head.now)) (scope_of scope.now) (trees (terms args.now))) }
 {
     match args {
@@ -217,7 +218,7 @@ fn is_difference_application(
 
 #[tactic(auto, using(crate::proofs::WalkedTerms::walk_words))]
 fn is_difference_at(known: &Known, last: &Seen) -> Result<bool, AllocError>
-    requires { AppliesLower known.now.defs.now }
+    requires { AppliesLower (plain_defs known.now.defs.now) }
     ensures { IfOk result (λ is. is ≡ is_difference_at (context_in known.now) (occurrence last.now)) }
 {
     match last.term.node() {
@@ -227,7 +228,7 @@ fn is_difference_at(known: &Known, last: &Seen) -> Result<bool, AllocError>
 }
 
 fn is_difference(known: &Known, scope: &Scope, term: &TermRef) -> Result<bool, AllocError>
-    requires { AppliesLower known.now.defs.now }
+    requires { AppliesLower (plain_defs known.now.defs.now) }
     ensures { IfOk result (λ is. is ≡ is_difference (context_in known.now) (seen_in (scope_of scope.now) (tree term.now))) }
 {
     let seen = seen_in(scope, term)?;
@@ -236,7 +237,7 @@ fn is_difference(known: &Known, scope: &Scope, term: &TermRef) -> Result<bool, A
 }
 
 fn is_side(known: &Known, scope: &Scope, term: &TermRef) -> Result<bool, AllocError>
-    requires { AppliesLower known.now.defs.now }
+    requires { AppliesLower (plain_defs known.now.defs.now) }
     ensures { IfOk result (λ is. is ≡ is_side (context_in known.now) (seen_in (scope_of scope.now) (tree term.now))) }
 {
     match is_atom(known, scope, term) {
@@ -257,7 +258,7 @@ fn is_difference_and(
     first: &TermRef,
     second: &TermRef,
 ) -> Result<bool, AllocError>
-    requires { AppliesLower known.now.defs.now }
+    requires { AppliesLower (plain_defs known.now.defs.now) }
     ensures { IfOk result (λ is. is ≡ is_difference_and (context_in known.now) (seen_in (scope_of scope.now) (tree first.now)) (seen_in (scope_of scope.now) (tree second.now))) }
 {
     match is_difference(known, scope, first) {
@@ -273,7 +274,7 @@ fn is_difference_pair(
     first: &TermRef,
     second: &TermRef,
 ) -> Result<bool, AllocError>
-    requires { AppliesLower known.now.defs.now }
+    requires { AppliesLower (plain_defs known.now.defs.now) }
     ensures { IfOk result (λ is. is ≡ is_difference_pair (context_in known.now) (seen_in (scope_of scope.now) (tree first.now)) (seen_in (scope_of scope.now) (tree second.now))) }
 {
     match is_difference_and(known, scope, first, second) {
@@ -285,7 +286,7 @@ fn is_difference_pair(
 
 #[tactic(auto, using(crate::proofs::Pairs::pair_words))]
 fn are_difference_pair(known: &Known, scope: &Scope, args: &[TermRef]) -> Result<bool, AllocError>
-    requires { AppliesLower known.now.defs.now }
+    requires { AppliesLower (plain_defs known.now.defs.now) }
     ensures { IfOk result (λ are. are ≡ pair_test (is_difference_pair (context_in known.now)) (scope_of scope.now) (trees (terms args.now))) }
 {
     match args {
@@ -297,7 +298,7 @@ fn are_difference_pair(known: &Known, scope: &Scope, args: &[TermRef]) -> Result
 }
 
 fn are_sides(known: &Known, scope: &Scope, args: &[TermRef]) -> Result<bool, AllocError>
-    requires { AppliesLower known.now.defs.now }
+    requires { AppliesLower (plain_defs known.now.defs.now) }
     ensures { IfOk result (λ are. are ≡ list_all (is_side (context_in known.now)) (each_seen_in (scope_of scope.now) (trees (terms args.now)))) }
 {
     for arg in args {
@@ -311,7 +312,7 @@ fn are_sides(known: &Known, scope: &Scope, args: &[TermRef]) -> Result<bool, All
 }
 
 fn are_comparable(known: &Known, scope: &Scope, args: &[TermRef]) -> Result<bool, AllocError>
-    requires { AppliesLower known.now.defs.now }
+    requires { AppliesLower (plain_defs known.now.defs.now) }
     ensures { IfOk result (λ are. are ≡ are_comparable (context_in known.now) (scope_of scope.now) (trees (terms args.now))) }
 {
     match are_sides(known, scope, args) {
@@ -350,7 +351,7 @@ fn is_outside_application(
     scope: &Scope,
     args: &[TermRef],
 ) -> Result<bool, AllocError>
-    requires { AppliesLower known.now.defs.now }
+    requires { AppliesLower (plain_defs known.now.defs.now) }
     ensures { IfOk result (λ is. is ≡ is_outside_application (context_in known.now) (scope_of scope.now) (theory_text known.now.names.now head.now) (trees (terms args.now))) }
 {
     if is_theory(known, head, b"divisible") {
@@ -370,7 +371,7 @@ fn is_outside_application(
 
 #[tactic(auto, using(crate::proofs::WalkedTerms::walk_words))]
 fn is_outside_named(known: &Known, seen: &Seen) -> Result<bool, AllocError>
-    requires { AppliesLower known.now.defs.now }
+    requires { AppliesLower (plain_defs known.now.defs.now) }
     ensures { IfOk result (λ is. is ≡ is_outside_named (context_in known.now) (scope_of seen.now.scope) (tree seen.now.term)) }
 {
     match seen.term.node() {
@@ -380,7 +381,7 @@ fn is_outside_named(known: &Known, seen: &Seen) -> Result<bool, AllocError>
 }
 
 fn is_other_integer(known: &Known, scope: &Scope, term: &TermRef) -> Result<bool, AllocError>
-    requires { AppliesLower known.now.defs.now }
+    requires { AppliesLower (plain_defs known.now.defs.now) }
     ensures { IfOk result (λ is. is ≡ is_other_integer (context_in known.now) (seen_in (scope_of scope.now) (tree term.now))) }
 {
     if !has_int(scope, term) {
@@ -399,7 +400,7 @@ fn is_other_integer(known: &Known, scope: &Scope, term: &TermRef) -> Result<bool
 
 /// Whether the term is outside of difference logic. The only error is that memory runs out.
 pub(crate) fn is_outside(known: &Known, seen: &Seen) -> Result<bool, AllocError>
-    requires { AppliesLower known.now.defs.now }
+    requires { AppliesLower (plain_defs known.now.defs.now) }
     ensures { IfOk result (λ is. is ≡ is_outside (context_in known.now) (scope_of seen.now.scope) (tree seen.now.term)) }
 {
     match is_other_integer(known, &seen.scope, &seen.term) {

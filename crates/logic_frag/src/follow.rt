@@ -5,7 +5,7 @@ ghost use Rattle.term_store.specs.declared.parts.Fun.TheVariants as fun;
 ghost use Rattle.term_store.specs.NumberedNodes.{terms};
 ghost use Rattle.term_store.specs.Term.{tree, trees};
 ghost use Rattle.logic_frag.specs.declared.binder.Binder.TheVariants as binders;
-ghost use Rattle.logic_frag.specs.Following.{AppliesLower, application_next, body_of, next_of};
+ghost use Rattle.logic_frag.specs.Following.{AppliesLower, application_next, body_of, next_of, plain_defs};
 ghost use Rattle.logic_frag.specs.ScopeFrames.{scope_of};
 ghost use Rattle.logic_frag.specs.SeenTerms.{occurrence};
 ghost use Rattle.logic_frag.specs.Weights.{end_of};
@@ -20,8 +20,9 @@ use std::alloc::AllocError;
 use term_store::{Fun, TermNode, TermRef};
 
 // The body of a definition without parameters that is not recursive.
+#[tactic(auto, using(crate::proofs::KnownDefinitions::kept_words))]
 fn constant_body(known: &Known, no: DeclNo) -> Result<Option<Seen>, AllocError>
-    ensures { IfOk result (λ next. option_map occurrence next ≡ body_of known.now.defs.now (fun.Declared no)) }
+    ensures { IfOk result (λ next. option_map occurrence next ≡ body_of (plain_defs known.now.defs.now) (fun.Declared no)) }
 {
     let Some(def) = known.defs.def(no) else {
         return Ok(None);
@@ -36,7 +37,7 @@ fn constant_body(known: &Known, no: DeclNo) -> Result<Option<Seen>, AllocError>
 
 #[tactic(auto, using(crate::proofs::Weights::arguments_end))]
 fn application_next(known: &Known, head: Fun, args: &[TermRef]) -> Result<Option<Seen>, AllocError>
-    ensures { IfOk result (λ next. option_map occurrence next ≡ application_next known.now.defs.now head (trees (terms args.now))) }
+    ensures { IfOk result (λ next. option_map occurrence next ≡ application_next (plain_defs known.now.defs.now) head (trees (terms args.now))) }
 {
     match args {
         [] => match head {
@@ -59,7 +60,7 @@ fn inside_let(known: &Known, seen: &Seen) -> Result<Scope, AllocError>
 // The next term that the term stands for. The only error is that memory runs out.
 #[tactic(auto, using(crate::proofs::WalkedTerms::walk_words))]
 fn next_of(known: &Known, seen: &Seen) -> Result<Option<Seen>, AllocError>
-    ensures { IfOk result (λ next. option_map occurrence next ≡ next_of known.now.defs.now (scope_of seen.now.scope) (tree seen.now.term)) }
+    ensures { IfOk result (λ next. option_map occurrence next ≡ next_of (plain_defs known.now.defs.now) (scope_of seen.now.scope) (tree seen.now.term)) }
 {
     match seen.term.node() {
         TermNode::Ann { body, .. } => {
@@ -80,8 +81,8 @@ fn next_of(known: &Known, seen: &Seen) -> Result<Option<Seen>, AllocError>
 
 /// The last of the terms that the term stands for. The only error is that memory runs out.
 pub(crate) fn resolve(known: &Known, seen: Seen) -> Result<Seen, AllocError>
-    requires { AppliesLower known.now.defs.now }
-    ensures { IfOk result (λ last. occurrence last ≡ end_of known.now.defs.now (occurrence seen)) }
+    requires { AppliesLower (plain_defs known.now.defs.now) }
+    ensures { IfOk result (λ last. occurrence last ≡ end_of (plain_defs known.now.defs.now) (occurrence seen)) }
 {
     let mut last = seen;
     'links: loop {

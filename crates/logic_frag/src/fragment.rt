@@ -1,7 +1,7 @@
 //! The rules of the fragment of a logic, and the first that a command breaks.
 ghost use Rattle.std.specs.Prelude.{◌≡◌, ◌↔◌, IfOk, IsTrue};
 ghost use Rattle.term_store.specs.Command.{plain_command};
-ghost use Rattle.logic_frag.specs.Following.{AppliesLower};
+ghost use Rattle.logic_frag.specs.Following.{AppliesLower, plain_defs};
 ghost use Rattle.logic_frag.specs.FragmentRules.{BreaksRule, IsFirstBroken, context_of, fragment_codes};
 ghost use Rattle.logic_frag.specs.Logics.{described};
 
@@ -27,9 +27,9 @@ fn breaks_rule(
     defs: &Defs,
     code: Code,
 ) -> Result<bool, NoMemory>
-    requires { AppliesLower defs.now }
+    requires { AppliesLower (plain_defs defs.now) }
     ensures { IfOk result (λ broken. IsTrue broken
-        ↔ BreaksRule (described logic.now) (context_of names.now defs.now (plain_command command.now)) (plain_command command.now) code) }
+        ↔ BreaksRule (described logic.now) (context_of names.now (plain_defs defs.now) (plain_command command.now)) (plain_command command.now) code) }
 {
     match code {
         Code::QuantifierOutsideLogic => Ok(!logic.q && has_quantifier(command)),
@@ -59,8 +59,8 @@ fn first_of(
     defs: &Defs,
     codes: &[Code],
 ) -> Result<Option<Code>, NoMemory>
-    requires { AppliesLower defs.now }
-    ensures { IfOk result (λ answer. IsFirstBroken (BreaksRule (described logic.now) (context_of names.now defs.now (plain_command command.now)) (plain_command command.now)) codes.now answer) }
+    requires { AppliesLower (plain_defs defs.now) }
+    ensures { IfOk result (λ answer. IsFirstBroken (BreaksRule (described logic.now) (context_of names.now (plain_defs defs.now) (plain_command command.now)) (plain_command command.now)) codes.now answer) }
 {
     match codes {
         [] => Ok(None),
@@ -97,8 +97,8 @@ pub fn first_break(
     command: &TypedCommand,
     defs: &Defs,
 ) -> Result<Option<Code>, NoMemory>
-    requires { AppliesLower defs.now }
-    ensures { IfOk result (λ answer. IsFirstBroken (BreaksRule (described logic.now) (context_of names.now defs.now (plain_command command.now)) (plain_command command.now)) fragment_codes answer) }
+    requires { AppliesLower (plain_defs defs.now) }
+    ensures { IfOk result (λ answer. IsFirstBroken (BreaksRule (described logic.now) (context_of names.now (plain_defs defs.now) (plain_command command.now)) (plain_command command.now)) fragment_codes answer) }
 {
     first_of(alloc, logic, names, command, defs, &codes())
 }

@@ -3,7 +3,7 @@ ghost use Rattle.std.specs.Prelude.{◌≡◌, IfOk};
 ghost use Rattle.std.specs.List.{list_any};
 ghost use Rattle.term_store.specs.NumberedNodes.{terms};
 ghost use Rattle.term_store.specs.Term.{tree, trees};
-ghost use Rattle.logic_frag.specs.Following.{AppliesLower, context_in};
+ghost use Rattle.logic_frag.specs.Following.{AppliesLower, context_in, plain_defs};
 ghost use Rattle.logic_frag.specs.IntegerTerms.{each_seen_in};
 ghost use Rattle.logic_frag.specs.IntegerTests.{bad_divisors, is_bad_divisor, is_factor, is_nonlinear, is_nonlinear_named, theory_text, two_factors};
 ghost use Rattle.logic_frag.specs.Occurrences.{seen_in};
@@ -17,7 +17,7 @@ use std::alloc::AllocError;
 use term_store::{Applied, TermNode, TermRef};
 
 fn is_factor(known: &Known, scope: &Scope, term: &TermRef) -> Result<bool, AllocError>
-    requires { AppliesLower known.now.defs.now }
+    requires { AppliesLower (plain_defs known.now.defs.now) }
     ensures { IfOk result (λ factor. factor ≡ is_factor (context_in known.now) (seen_in (scope_of scope.now) (tree term.now))) }
 {
     let seen = seen_in(scope, term)?;
@@ -29,7 +29,7 @@ fn is_factor(known: &Known, scope: &Scope, term: &TermRef) -> Result<bool, Alloc
 }
 
 fn any_factor(known: &Known, scope: &Scope, args: &[TermRef]) -> Result<bool, AllocError>
-    requires { AppliesLower known.now.defs.now }
+    requires { AppliesLower (plain_defs known.now.defs.now) }
     ensures { IfOk result (λ any. any ≡ list_any (is_factor (context_in known.now)) (each_seen_in (scope_of scope.now) (trees (terms args.now)))) }
 {
     for arg in args {
@@ -44,7 +44,7 @@ fn any_factor(known: &Known, scope: &Scope, args: &[TermRef]) -> Result<bool, Al
 
 // Whether two of the arguments are no coefficients.
 fn two_factors(known: &Known, scope: &Scope, args: &[TermRef]) -> Result<bool, AllocError>
-    requires { AppliesLower known.now.defs.now }
+    requires { AppliesLower (plain_defs known.now.defs.now) }
     ensures { IfOk result (λ two. two ≡ two_factors (context_in known.now) (each_seen_in (scope_of scope.now) (trees (terms args.now)))) }
 {
     let mut rest = args;
@@ -60,7 +60,7 @@ fn two_factors(known: &Known, scope: &Scope, args: &[TermRef]) -> Result<bool, A
 }
 
 fn is_bad_divisor(known: &Known, scope: &Scope, term: &TermRef) -> Result<bool, AllocError>
-    requires { AppliesLower known.now.defs.now }
+    requires { AppliesLower (plain_defs known.now.defs.now) }
     ensures { IfOk result (λ bad. bad ≡ is_bad_divisor (context_in known.now) (seen_in (scope_of scope.now) (tree term.now))) }
 {
     let seen = seen_in(scope, term)?;
@@ -72,7 +72,7 @@ fn is_bad_divisor(known: &Known, scope: &Scope, term: &TermRef) -> Result<bool, 
 }
 
 fn any_bad_divisor(known: &Known, scope: &Scope, args: &[TermRef]) -> Result<bool, AllocError>
-    requires { AppliesLower known.now.defs.now }
+    requires { AppliesLower (plain_defs known.now.defs.now) }
     ensures { IfOk result (λ any. any ≡ list_any (is_bad_divisor (context_in known.now)) (each_seen_in (scope_of scope.now) (trees (terms args.now)))) }
 {
     for arg in args {
@@ -87,7 +87,7 @@ fn any_bad_divisor(known: &Known, scope: &Scope, args: &[TermRef]) -> Result<boo
 
 // Whether an argument past the first is no coefficient, or is zero.
 fn bad_divisors(known: &Known, scope: &Scope, args: &[TermRef]) -> Result<bool, AllocError>
-    requires { AppliesLower known.now.defs.now }
+    requires { AppliesLower (plain_defs known.now.defs.now) }
     ensures { IfOk result (λ bad. bad ≡ bad_divisors (context_in known.now) (each_seen_in (scope_of scope.now) (trees (terms args.now)))) }
 {
     match args {
@@ -102,7 +102,7 @@ fn is_nonlinear_named(
     scope: &Scope,
     args: &[TermRef],
 ) -> Result<bool, AllocError>
-    requires { AppliesLower known.now.defs.now }
+    requires { AppliesLower (plain_defs known.now.defs.now) }
     ensures { IfOk result (λ nonlinear. nonlinear ≡ is_nonlinear_named (context_in known.now) (theory_text known.now.names.now head.now) (each_seen_in (scope_of scope.now) (trees (terms args.now)))) }
 {
     if is_theory(known, head, b"*") {
@@ -118,7 +118,7 @@ fn is_nonlinear_named(
 /// memory runs out.
 #[tactic(auto, using(crate::proofs::WalkedTerms::walk_words))]
 pub(crate) fn is_nonlinear(known: &Known, seen: &Seen) -> Result<bool, AllocError>
-    requires { AppliesLower known.now.defs.now }
+    requires { AppliesLower (plain_defs known.now.defs.now) }
     ensures { IfOk result (λ nonlinear. nonlinear ≡ is_nonlinear (context_in known.now) (scope_of seen.now.scope) (tree seen.now.term)) }
 {
     match seen.term.node() {

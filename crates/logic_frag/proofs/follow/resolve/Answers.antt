@@ -1,7 +1,7 @@
 use Rattle.std.proofs.Common.{◌≡◌, ◌+◌, None, ap, sym, ◌∙◌, arith}
 use Rattle.std.specs.Option.{option_map}
 use Rattle.term_store.specs.Term.{tree}
-use Rattle.logic_frag.specs.Following.{context_in, next_of}
+use Rattle.logic_frag.specs.Following.{context_in, next_of, plain_defs}
 use Rattle.logic_frag.specs.ScopeFrames.{scope_of}
 use Rattle.logic_frag.specs.SeenTerms.{occurrence}
 use Rattle.logic_frag.specs.StandsFor.{itself}
@@ -15,19 +15,19 @@ links-init c = record { stands = itself; bounded = omega arith }
 
 pub links-smaller : goal.links-smaller
 links-smaller c =
-    let kept = c.args.known.now.defs.now in
+    let kept = plain_defs c.args.known.now.defs.now in
     let last = c.links.last in
     let next = occurrence c.in-Ok-Some.next in
-    let bound = weight (occurrence c.args.seen) + bodies_size kept.defs + 1 in
+    let bound = weight (occurrence c.args.seen) + bodies_size kept + 1 in
     let step = sym (ap (option_map occurrence) c.in-Ok-Some.field-0-is) ∙ c.in-Ok-Some.ensures in
     measure_falls kept (occurrence last) next bound (omega arith) c.links.invariant.bounded (falls kept (scope_of last.scope) (tree last.term) next c.requires (sym step))
 
 pub links-preserved : goal.links-preserved
 links-preserved c =
-    let kept = c.args.known.now.defs.now in
+    let kept = plain_defs c.args.known.now.defs.now in
     let last = c.links.last in
     let next = occurrence c.in-Ok-Some.next in
-    let bound = weight (occurrence c.args.seen) + bodies_size kept.defs + 1 in
+    let bound = weight (occurrence c.args.seen) + bodies_size kept + 1 in
     let step = sym (ap (option_map occurrence) c.in-Ok-Some.field-0-is) ∙ c.in-Ok-Some.ensures in
     let context = context_in c.args.known.now in
     record {
@@ -38,5 +38,5 @@ links-preserved c =
 pub returns-in-Ok-None : goal.returns-in-Ok-None
 returns-in-Ok-None c =
     let last = c.links.last in
-    let step : next_of c.args.known.now.defs.now (scope_of last.scope) (tree last.term) ≡ None = sym (sym (ap (option_map occurrence) c.in-Ok-None.field-0-is) ∙ c.in-Ok-None.ensures) in
+    let step : next_of (plain_defs c.args.known.now.defs.now) (scope_of last.scope) (tree last.term) ≡ None = sym (sym (ap (option_map occurrence) c.in-Ok-None.field-0-is) ∙ c.in-Ok-None.ensures) in
     end_is (context_in c.args.known.now) (occurrence c.args.seen) (occurrence last) c.requires (record { stands = c.links.invariant.stands; no_next = step })
