@@ -12,7 +12,7 @@ use Rattle.script_core.specs.Acceptance.{IsFaultless, IsFirstFault, Judged, Refu
 use Rattle.script_core.specs.Environment.{start}
 use Rattle.script_core.specs.Steps.{Cause, all_taken, exited, broken, Run, Runs}
 use Rattle.script_core.specs.Text.{AllRead, Broken, BreaksAt, HasLists, ListsEnd, Unfinished}
-use Rattle.script_core.proofs.Running.{run_once, run_some}
+use Rattle.script_core.proofs.LawfulRuns.{run_once, run_some, start_reached}
 use Rattle.script_core.proofs.TextLists.{lists_once, some_lists}
 use Rattle.script_core.proofs.TextTokens.{same_place, some_tokens, tokens_once}
 
@@ -26,7 +26,7 @@ judged_once : (bytes : List ℕ) (ended : Bool) (f g : Option Place) (a b : List
 judged_once bytes ended f g a b r s x y =
     let tokens = tokens_once bytes x.tokens y.tokens ended ended f g refl x.has_tokens y.has_tokens in
     let lists = lists_once y.tokens x.lists y.lists a b (subst (λ (ts : List Token). HasLists ts x.lists a) tokens.0 x.has_lists) y.has_lists in
-    record { fault = tokens.1; rest = lists.1; run = run_once y.lists start r s (subst (λ (ls : List (Sexp Token)). Runs start ls r) lists.0 x.runs) y.runs }
+    record { fault = tokens.1; rest = lists.1; run = run_once y.lists start start_reached r s (subst (λ (ls : List (Sexp Token)). Runs start ls r) lists.0 x.runs) y.runs }
 
 pub sofar_unique : (bytes : List ℕ) (ended : Bool) (cs ds : List PlainCommand) → Sofar bytes ended cs → Sofar bytes ended ds → cs ≡ ds
 sofar_unique bytes ended cs ds x y =
@@ -111,7 +111,7 @@ pub some_answer : (bytes : List ℕ) (ended : Bool) → SomeAnswer bytes ended
 some_answer bytes ended =
     let t = some_tokens bytes ended in
     let l = some_lists t.later in
-    let r = run_some l.more start in
+    let r = run_some l.more start start_reached in
     let judged : Judged bytes ended t.fault l.rest r.0 = record { tokens = t.later; lists = l.more; has_tokens = t.has_tokens; has_lists = l.has_lists; runs = r.1 } in
     elim (fault_cases ended t.fault l.rest r.0.cause (unfinished_beginning t.later l.more l.rest l.has_lists)) [
       | inl found ↦ (

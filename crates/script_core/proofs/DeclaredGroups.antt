@@ -1,7 +1,7 @@
 -- What the commands that declare datatypes lead to, from what the calls answer.
 use Rattle.std.proofs.Common.{◌≡◌, ℕ, zero, suc, Bool, false, List, [], ◌∷◌, ◌++◌, length, map, take, IsTrue, Ok, Err, refl, ap, sym, ◌∙◌, subst, arith, inl}
+use Rattle.std.specs.Option.{IsSome}
 use Rattle.std.specs.List.{All, Contains}
-use Rattle.std.proofs.lemmas.Bool.{false≢true}
 use Rattle.std.proofs.lemmas.List.{map-append}
 use Rattle.lex_core.specs.declared.token.Tok.{Tok}
 use Rattle.judgement.specs.Judging.{ill_sorted, well_sorted}
@@ -31,6 +31,7 @@ use Rattle.script_core.specs.Effects.{BeginsNames, DeclaresNoName, MeetsParts, s
 use Rattle.script_core.specs.Environment.{Environment, signature_from, signature_in}
 use Rattle.script_core.specs.Keeping.{EachDatatypeUnused, KeepsBelow, KeepsEarlier, KeepsGroupPart, with_datatypes}
 use Rattle.script_core.specs.Rules.{with_group, with_parts_kept}
+use Rattle.script_core.proofs.SetLogics.{under_logic}
 use Rattle.script_core.proofs.GroupCounts.{take_all}
 use Rattle.script_core.proofs.GroupNumbers.{group_numbers, single_number}
 use Rattle.script_core.proofs.KeptNumbers.{each_datatype_unused, group_part_earlier}
@@ -88,11 +89,8 @@ part_ready old new group before ready (i, e) =
 pub all_part : (old new : Kept) (group : List Datatype) → new ≡ with_datatypes old group → KeepsGroupPart old group new
 all_part old new group e = (length group, e ∙ ap (with_datatypes old) (sym (take_all group (length group) refl)))
 
-set_logic : {A : Type 0} (logic : Bool) → IsTrue logic → logic ≡ false → A
-set_logic logic set unset = absurd (false≢true (sym unset ∙ set))
-
 -- the scope stands where some of the group are kept
-pub kept_stands : (scope : Scope) (world : World) (script : Kept) (group : List Datatype) (next : ℕ) → IsTrue scope.logic → IsReady world → OnlySymbolsChange scope.world world
+pub kept_stands : (scope : Scope) (world : World) (script : Kept) (group : List Datatype) (next : ℕ) → IsSome scope.logic → IsReady world → OnlySymbolsChange scope.world world
     → IsReadyGroup (datatypes_of scope.world.script) (map plain_datatype group) → KeepsGroupPart world.script group script → IsReadyScope (record scope { world = record world { script = script }; next = next })
 kept_stands scope world script group next set ready others fields part =
     let same : world.script ≡ scope.world.script = ap (λ (w : World). w.script) others.others in
@@ -104,7 +102,7 @@ kept_stands scope world script group next set ready others fields part =
         datatypes = part_ready scope.world.script script group (subst (λ (k : Kept). All IsReadyDatatype (datatypes_of k)) same ready.datatypes) fields (subst (λ (k : Kept). KeepsGroupPart k group script) same part);
         numbered = ready.numbered;
       };
-      undeclared = set_logic scope.logic set;
+      undeclared = under_logic scope.logic set;
     }
 
 -- The sort symbols of the group are live.

@@ -1,7 +1,10 @@
 -- What one more token makes of a checker that has taken some tokens.
-use Rattle.std.proofs.Common.{◌≡◌, ℕ, ◌+◌, ◌<◌, ◌≤◌, Bool, true, false, List, [], ◌∷◌, ◌++◌, length, Option, None, refl, sym, ◌∙◌, ap, subst, inl, inr, arith}
+use Rattle.std.proofs.Common.{◌≡◌, ℕ, ◌+◌, ◌<◌, ◌≤◌, Bool, true, false, List, [], ◌∷◌, ◌++◌, length, Option, None, option_map, refl, sym, ◌∙◌, ap, subst, inl, inr, arith}
 use Rattle.std.proofs.lemmas.Bool.{cases_Bool}
 use Rattle.std.proofs.lemmas.List.{append-nil, map-append}
+use Rattle.logic_frag.specs.declared.logic.Logic.{Logic}
+use Rattle.logic_frag.specs.Following.{plain_defs}
+use Rattle.logic_frag.specs.Logics.{described}
 use Rattle.lex_core.proofs.CallClauses.{number_kept, token_kept}
 use Rattle.lex_core.specs.LexerCalls.{ExtendsTable, HasRead}
 use Rattle.lex_core.specs.LexerSteps.{LexerState}
@@ -280,12 +283,12 @@ follows_grown known tokens c new lexer e f =
       stands = record { ready = ready_with_names c.scope.world new e f.stands.ready; undeclared = f.stands.undeclared };
     }
 
-abbrev env_of : List (List ℕ) → Bool → Theories → Scopes → Kept → ℕ → Environment
+abbrev env_of : List (List ℕ) → Option Logic → Theories → Scopes → Kept → ℕ → Environment
 env_of names logic theories scopes script next =
-    record { names = names; logic = logic; theories = theories; declarations = declarations_of scopes; datatypes = datatypes_of script; next = next }
+    record { names = names; logic = option_map described logic; theories = theories; declarations = declarations_of scopes; datatypes = datatypes_of script; definitions = plain_defs script.defs; next = next }
 
 -- nothing was taken yet
-pub starts : (c : Checker) → c.builder ≡ ([], None) → c.scope.logic ≡ false → c.scope.world.theories ≡ core_alone → c.scope.world.scopes ≡ empty → c.scope.next ≡ 0 → c.scope.world.script ≡ empty_script → HasRead [] [] c.lexer
+pub starts : (c : Checker) → c.builder ≡ ([], None) → c.scope.logic ≡ None → c.scope.world.theories ≡ core_alone → c.scope.world.scopes ≡ empty → c.scope.next ≡ 0 → c.scope.world.script ≡ empty_script → HasRead [] [] c.lexer
     → c.scope.world.names ≡ fixed_texts → IsNameTable c.scope.world.names → IsReadyScope c.scope → length c.scope.world.names ≤ 57 → HasTaken [] c
 starts c builder logic theories scopes next script read names table stands few = record {
   tokens = [];
@@ -297,11 +300,11 @@ starts c builder logic theories scopes next script read names table stands few =
     no_error = ap (λ (s : State). s.1) builder;
     runs = ap (λ (k : Kept). all_of (commands_of k) (environment_of c.scope.world.names c.scope)) script ∙ ap (λ (e : Environment). all_of [] e)
         (ap (λ (ns : List (List ℕ)). env_of ns c.scope.logic c.scope.world.theories c.scope.world.scopes c.scope.world.script c.scope.next) names
-        ∙ (ap (λ (b : Bool). env_of fixed_texts b c.scope.world.theories c.scope.world.scopes c.scope.world.script c.scope.next) logic
-        ∙ (ap (λ (t : Theories). env_of fixed_texts false t c.scope.world.scopes c.scope.world.script c.scope.next) theories
-        ∙ (ap (λ (d : Scopes). env_of fixed_texts false core_alone d c.scope.world.script c.scope.next) scopes
-        ∙ (ap (λ (k : Kept). env_of fixed_texts false core_alone empty k c.scope.next) script
-        ∙ ap (λ (n : ℕ). env_of fixed_texts false core_alone empty empty_script n) next)))));
+        ∙ (ap (λ (l : Option Logic). env_of fixed_texts l c.scope.world.theories c.scope.world.scopes c.scope.world.script c.scope.next) logic
+        ∙ (ap (λ (t : Theories). env_of fixed_texts None t c.scope.world.scopes c.scope.world.script c.scope.next) theories
+        ∙ (ap (λ (d : Scopes). env_of fixed_texts None core_alone d c.scope.world.script c.scope.next) scopes
+        ∙ (ap (λ (k : Kept). env_of fixed_texts None core_alone empty k c.scope.next) script
+        ∙ ap (λ (n : ℕ). env_of fixed_texts None core_alone empty empty_script n) next)))));
     interned = subst (λ (s : State). AreInterned c.scope.world.names s.0) (sym builder) tt;
     table = subst (λ (s : State). c.scope.world.names ≡ table_after c.scope.world.names (texts_of c.scope.world.names s.0)) (sym builder) refl;
     keeps = subst KeepsDefined (sym script) (record { defs = refl; datatypes = refl });

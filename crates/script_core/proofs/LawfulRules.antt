@@ -1,6 +1,8 @@
 -- Each list has exactly one outcome as the next command.
-use Rattle.std.proofs.Common.{◌≡◌, ℕ, Bool, true, false, IsTrue, List, [], ◌∷◌, ◌++◌, refl, ap, sym, ◌⊎◌, inl, inr}
+use Rattle.std.proofs.Common.{◌≡◌, ℕ, Bool, true, false, List, [], ◌∷◌, ◌++◌, Option, Some, None, refl, ap, sym, ◌⊎◌, inl, inr}
+use Rattle.std.specs.Option.{is_some}
 use Rattle.std.proofs.lemmas.Bool.{false≢true}
+use Rattle.sig_table.specs.declared.code.Code.{Code}
 use Rattle.lex_core.specs.Token.{Token}
 use Rattle.lex_core.specs.declared.place.Place.{Place}
 use Rattle.lex_core.specs.declared.token.Tok.{Tok}
@@ -20,15 +22,15 @@ use Rattle.theory_core.proofs.SortsDecided.{sort_decided}
 use Rattle.sort_store.specs.CoreRanks.{bool}
 use Rattle.sort_store.specs.declared.head.Head.TheVariants as head
 use Rattle.sort_store.specs.Tree.{Sort, sort, no_sorts, more_sorts}
-use Rattle.term_store.specs.Command.{PlainCommand}
-use Rattle.term_store.specs.Command as typed
-use Rattle.logic_frag.specs.FragmentRules.{DeclaresDatatype, DefinesRecursively, HasTerm, IsQuantifier}
-use Rattle.logic_frag.proofs.FoundParts.{has_quantified}
-use Rattle.script_core.specs.RuleAnswers.{is_quantified}
+use Rattle.term_store.specs.Command.{PlainCommand, PlainDef}
+use Rattle.logic_frag.specs.Following.{AppliesLower}
+use Rattle.logic_frag.specs.FragmentRules.{BreaksRule, context_of, fragment_codes}
+use Rattle.logic_frag.specs.Logics.{Description}
+use Rattle.logic_frag.proofs.DecidedRules.{rule_decided}
 use Rattle.term_store.specs.Term.{plain_sort}
-use Rattle.script_core.specs.Environment.{Environment, signature_from, signature_in}
+use Rattle.script_core.specs.Environment.{Environment, logic_in, signature_from, signature_in}
 use Rattle.script_core.specs.Numbering.{numbered_sexp}
-use Rattle.script_core.specs.Rules.{Header, declare_each, judge_body, judge_bool, judge_command, judge_fragment, judge_header, judge_headers, judge_literals, judge_member, judge_members, judge_mode, judge_own, judge_params, judge_parts, judge_variable, judge_variables, unchanging, with_header, with_headers}
+use Rattle.script_core.specs.Rules.{Header, declare_each, judge_body, judge_bool, judge_codes, judge_command, judge_fragment, judge_header, judge_headers, judge_literals, judge_member, judge_members, judge_mode, judge_own, judge_params, judge_parts, judge_variable, judge_variables, judge_whole, unchanging, with_header, with_headers}
 use Rattle.script_core.specs.Steps.{ListFault, ListSteps, judge_grammar, judge_list, judge_tree, with_names}
 
 lawful-grammar : (t : Sexp Tok) → Lawful (judge_grammar t)
@@ -50,7 +52,7 @@ is_false true = inr (λ e. false≢true (sym e))
 is_false false = inl refl
 
 lawful-mode : (env : Environment) (at : ℕ) (c : Command) → Lawful (judge_mode env at c)
-lawful-mode env at (set_logic n) = lawful-then _ _ (lawful-check _ _ _ (is_false env.logic)) (λ u. lawful-check _ _ _ (test_decided _))
+lawful-mode env at (set_logic n) = lawful-then _ _ (lawful-check _ _ _ (is_false (is_some env.logic))) (λ u. lawful-check _ _ _ (test_decided (is_some (logic_in env n))))
 lawful-mode env at (set_option a) = lawful-check _ _ _ (is_false _)
 lawful-mode env at (set_info a) = lawful-done _
 lawful-mode env at (get_option k) = lawful-done _
@@ -58,9 +60,9 @@ lawful-mode env at (get_info k) = lawful-done _
 lawful-mode env at (echo t) = lawful-done _
 lawful-mode env at reset = lawful-done _
 lawful-mode env at exit = lawful-done _
-lawful-mode env at (push n) = lawful-then _ _ (lawful-check _ _ _ (test_decided env.logic)) (λ u. lawful-check _ _ _ (at_most _ _))
-lawful-mode env at (pop n) = lawful-then _ _ (lawful-check _ _ _ (test_decided env.logic)) (λ u. lawful-check _ _ _ (at_most _ _))
-lawful-mode env at c = lawful-check _ _ _ (test_decided env.logic)
+lawful-mode env at (push n) = lawful-then _ _ (lawful-check _ _ _ (test_decided (is_some env.logic))) (λ u. lawful-check _ _ _ (at_most _ _))
+lawful-mode env at (pop n) = lawful-then _ _ (lawful-check _ _ _ (test_decided (is_some env.logic))) (λ u. lawful-check _ _ _ (at_most _ _))
+lawful-mode env at c = lawful-check _ _ _ (test_decided (is_some env.logic))
 
 lawful-params : (before : List ℕ) (ps : List Tok) → Lawful (judge_params before ps)
 lawful-params before [] = lawful-done _
@@ -133,58 +135,51 @@ lawful-parts env at reset = lawful-done _
 lawful-parts env at reset_assertions = lawful-done _
 lawful-parts env at c = lawful-then _ _ (lawful-find _ _ _ (option_decided (unchanging c))) (λ d. lawful-done _)
 
-allowed_decided : (P : Type 0) (q b : Bool) → (IsTrue q → P) → (P → IsTrue q) → (P → IsTrue b) ⊎ ((P → IsTrue b) → ⊥)
-allowed_decided P q true into out = inl (λ p. refl)
-allowed_decided P true false into out = inr (λ f. false≢true (f (into refl)))
-allowed_decided P false false into out = inl (λ p. absurd (false≢true (out p)))
+unbroken : {P : Type 0} → P ⊎ (P → ⊥) → (P → ⊥) ⊎ ((P → ⊥) → ⊥)
+unbroken (inl p) = inr (λ f. f p)
+unbroken (inr f) = inl f
 
-quantifier_decided : (c : PlainCommand) (b : Bool) → (HasTerm c (λ o. IsQuantifier o.its) → IsTrue b) ⊎ ((HasTerm c (λ o. IsQuantifier o.its) → IsTrue b) → ⊥)
-quantifier_decided c b = let h = has_quantified (is_quantified c) c refl in allowed_decided (HasTerm c (λ o. IsQuantifier o.its)) (is_quantified c) b h.0 h.1
+lawful-codes : (Broken : Code → Type 0) (at : ℕ) (cs : List Code) → ((c : Code) → Broken c ⊎ (Broken c → ⊥)) → Lawful (judge_codes Broken at cs)
+lawful-codes Broken at [] decided = lawful-done _
+lawful-codes Broken at (c ∷ cs) decided = lawful-then _ _ (lawful-check _ _ _ (unbroken (decided c))) (λ u. lawful-codes Broken at cs decided)
 
-recursion_decided : (c : PlainCommand) (b : Bool) → (DefinesRecursively c → IsTrue b) ⊎ ((DefinesRecursively c → IsTrue b) → ⊥)
-recursion_decided c true = inl (λ h. refl)
-recursion_decided (typed.define_fun_rec d) false = inr (λ f. false≢true (f tt))
-recursion_decided (typed.define_funs_rec ds) false = inr (λ f. false≢true (f tt))
-recursion_decided c false = inl (λ h. absurd h)
+lawful-fragment : (logic : Option Description) (texts : List (List ℕ)) (kept : List PlainDef) (at : ℕ) (c : PlainCommand) → AppliesLower kept → Lawful (judge_fragment logic texts kept at c)
+lawful-fragment None texts kept at c low = lawful-done _
+lawful-fragment (Some l) texts kept at c low = lawful-codes (BreaksRule l (context_of texts kept c) c) at fragment_codes (rule_decided l texts kept c low)
 
-datatype_decided : (c : PlainCommand) (b : Bool) → (DeclaresDatatype c → IsTrue b) ⊎ ((DeclaresDatatype c → IsTrue b) → ⊥)
-datatype_decided c true = inl (λ h. refl)
-datatype_decided (typed.declare_datatype t) false = inr (λ f. false≢true (f tt))
-datatype_decided (typed.declare_datatypes ts) false = inr (λ f. false≢true (f tt))
-datatype_decided c false = inl (λ h. absurd h)
+lawful-whole : (logic : Option Description) (texts : List (List ℕ)) (kept : List PlainDef) (at : ℕ) (c : PlainCommand) → AppliesLower kept → Lawful (judge_whole logic texts kept at c)
+lawful-whole logic texts kept at c low = lawful-then _ _ (lawful-check _ _ _ (at_most _ _)) (λ u. lawful-fragment logic texts kept at c low)
 
-lawful-fragment : (env : Environment) (at : ℕ) (c : PlainCommand) → Lawful (judge_fragment env at c)
-lawful-fragment env at c =
-    lawful-then _ _ (lawful-check _ _ _ (quantifier_decided c env.theories.ints)) (λ u. lawful-then _ _ (lawful-check _ _ _ (datatype_decided c env.theories.ints)) (λ v. lawful-check _ _ _ (recursion_decided c env.theories.ints)))
+-- The definitions so far apply lower functions, so that what a term stands for is decided.
+lawful-own : (env : Environment) → AppliesLower env.definitions → (at : ℕ) (c : Command) → Lawful (judge_own env at c)
+lawful-own env low at c =
+    lawful-then _ _ (lawful-mode env at c) (λ v. lawful-then _ _ (lawful-parts env at c) (λ made. lawful-then _ _ (lawful-whole env.logic env.names env.definitions at made.0 low) (λ w. lawful-done _)))
 
-lawful-own : (env : Environment) (at : ℕ) (c : Command) → Lawful (judge_own env at c)
-lawful-own env at c = lawful-then _ _ (lawful-mode env at c) (λ v. lawful-then _ _ (lawful-parts env at c) (λ made. lawful-then _ _ (lawful-fragment env at made.0) (λ w. lawful-done _)))
+lawful-command : (env : Environment) → AppliesLower env.definitions → (at : ℕ) (c : Command) → Lawful (judge_command env at c)
+lawful-command env low at c = lawful-then _ _ (lawful-own env low at c) (λ made. lawful-done _)
 
-lawful-command : (env : Environment) (at : ℕ) (c : Command) → Lawful (judge_command env at c)
-lawful-command env at c = lawful-then _ _ (lawful-own env at c) (λ made. lawful-done _)
+lawful-tree : (env : Environment) → AppliesLower env.definitions → (t : Sexp Tok) → Lawful (judge_tree env t)
+lawful-tree env low t = lawful-then _ _ (lawful-grammar t) (λ c. lawful-command env low _ c)
 
-pub lawful-tree : (env : Environment) (t : Sexp Tok) → Lawful (judge_tree env t)
-lawful-tree env t = lawful-then _ _ (lawful-grammar t) (λ c. lawful-command env _ c)
-
-lawful-list : (env : Environment) (t : Sexp Token) → Lawful (judge_list env t)
-lawful-list env t = lawful-tree (with_names env t) (numbered_sexp (with_names env t).names t)
+lawful-list : (env : Environment) → AppliesLower env.definitions → (t : Sexp Token) → Lawful (judge_list env t)
+lawful-list env low t = lawful-tree (with_names env t) low (numbered_sexp (with_names env t).names t)
 
 same_parts : (c d : PlainCommand) (n m : Environment) → ◌≡◌ {A = PlainCommand × Environment} (c, n) (d, m) → (c ≡ d) × (n ≡ m)
 same_parts c d n m e = (ap (λ (p : PlainCommand × Environment). p.0) e, ap (λ (p : PlainCommand × Environment). p.1) e)
 
 -- a list is one command, and leads to one environment
-pub list_once : (env : Environment) (t : Sexp Token) (c d : PlainCommand) (n m : Environment) → ListSteps env t c n → ListSteps env t d m → (c ≡ d) × (n ≡ m)
-list_once env t c d n m x y = same_parts c d n m (value_once (judge_list env t) (lawful-list env t) [] (c, n) (d, m) x.0 y.0 x.1 y.1).0
+pub list_once : (env : Environment) → AppliesLower env.definitions → (t : Sexp Token) (c d : PlainCommand) (n m : Environment) → ListSteps env t c n → ListSteps env t d m → (c ≡ d) × (n ≡ m)
+list_once env low t c d n m x y = same_parts c d n m (value_once (judge_list env t) (lawful-list env low t) [] (c, n) (d, m) x.0 y.0 x.1 y.1).0
 
-pub list_no_fault : (env : Environment) (t : Sexp Token) (c : PlainCommand) (n : Environment) (p : Place) → ListSteps env t c n → ListFault env t p → ⊥
-list_no_fault env t c n p x f = never_both (judge_list env t) (lawful-list env t) [] (c, n) x.0 p x.1 f
+pub list_no_fault : (env : Environment) → AppliesLower env.definitions → (t : Sexp Token) (c : PlainCommand) (n : Environment) (p : Place) → ListSteps env t c n → ListFault env t p → ⊥
+list_no_fault env low t c n p x f = never_both (judge_list env t) (lawful-list env low t) [] (c, n) x.0 p x.1 f
 
-pub list_fault_once : (env : Environment) (t : Sexp Token) (p q : Place) → ListFault env t p → ListFault env t q → p ≡ q
-list_fault_once env t p q f g = fault_once (judge_list env t) (lawful-list env t) [] p q f g
+pub list_fault_once : (env : Environment) → AppliesLower env.definitions → (t : Sexp Token) (p q : Place) → ListFault env t p → ListFault env t q → p ≡ q
+list_fault_once env low t p q f g = fault_once (judge_list env t) (lawful-list env low t) [] p q f g
 
 -- a list steps or has a fault
-pub list_cases : (env : Environment) (t : Sexp Token) → ((c : PlainCommand) × (n : Environment) × ListSteps env t c n) ⊎ ((p : Place) × ListFault env t p)
-list_cases env t = elim (value_or_fault (judge_list env t) (lawful-list env t) []) [
+pub list_cases : (env : Environment) → AppliesLower env.definitions → (t : Sexp Token) → ((c : PlainCommand) × (n : Environment) × ListSteps env t c n) ⊎ ((p : Place) × ListFault env t p)
+list_cases env low t = elim (value_or_fault (judge_list env t) (lawful-list env low t) []) [
   | inl found ↦ inl (found.0.0, found.0.1, (found.1, found.2))
   | inr fault ↦ inr fault
 ]

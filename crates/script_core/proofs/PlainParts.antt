@@ -1,5 +1,5 @@
 -- A command that declares no datatype is kept as one that declares none, and leaves the script as it was.
-use Rattle.std.proofs.Common.{◌≡◌, ℕ, false, List, [], Some, Result, Ok, Err, refl, ap, sym, ◌∙◌, append-nil}
+use Rattle.std.proofs.Common.{◌≡◌, ℕ, Bool, true, false, List, [], Some, Result, Ok, Err, refl, ap, sym, ◌∙◌, append-nil}
 use Rattle.std.proofs.lemmas.Bool.{false≢true}
 use Rattle.std.specs.Prelude.{IfOk, OnErr}
 use Rattle.lex_core.specs.declared.token.Tok.{Tok}
@@ -11,6 +11,7 @@ use Rattle.cmd_grammar.specs.Commands.{DataDec, SortDec}
 use Rattle.cmd_grammar.specs.declared.command_kind.RawCommandKind.{RawCommandKind}
 use Rattle.cmd_grammar.specs.declared.command_kind.RawCommandKind.TheVariants as raw_kind
 use Rattle.term_store.specs.Command.{PlainCommand, plain_command}
+use Rattle.term_store.specs.Command as typed
 use Rattle.term_store.specs.Script.{Kept}
 use Rattle.term_store.specs.declared.command.TypedCommand.{TypedCommand}
 use Rattle.term_store.specs.declared.command.TypedCommand.TheVariants as kept
@@ -18,9 +19,13 @@ use Rattle.script_core.specs.declared.scope.StepError.{StepError}
 use Rattle.script_core.specs.Effects.{MeetsParts}
 use Rattle.script_core.specs.Environment.{Environment}
 use Rattle.script_core.specs.Keeping.{KeepsEarlier, group_in, with_datatypes}
-use Rattle.script_core.specs.RuleAnswers.{declares_datatype}
 use Rattle.script_core.specs.Rules.{declares_group, judge_parts, unchanging}
 use Rattle.script_core.proofs.KeptNumbers.{same_earlier}
+
+abbrev declares_datatype : PlainCommand → Bool
+declares_datatype (typed.declare_datatype t) = true
+declares_datatype (typed.declare_datatypes ts) = true
+declares_datatype command = false
 
 no_group_in : (c : TypedCommand) → declares_datatype (plain_command c) ≡ false → group_in c ≡ []
 no_group_in (kept.DeclareDatatype t) e = absurd (false≢true (sym e))

@@ -1,7 +1,9 @@
 -- A scope stays ready through the commands that change it.
-use Rattle.std.proofs.Common.{◌≡◌, ℕ, ◌<◌, ◌≤◌, Bool, true, false, List, [], length, IsTrue, refl, sym, ◌∙◌, subst}
+use Rattle.std.proofs.Common.{◌≡◌, ℕ, ◌<◌, ◌≤◌, Bool, true, false, List, [], length, Option, None, refl, sym, ◌∙◌, subst}
+use Rattle.std.specs.Option.{IsSome, is_some}
+use Rattle.logic_frag.specs.declared.logic.Logic.{Logic}
+use Rattle.script_core.proofs.SetLogics.{under_logic}
 use Rattle.std.specs.List.{All}
-use Rattle.std.proofs.lemmas.Bool.{false≢true}
 use Rattle.sig_table.specs.declared.theories.Theories.{Theories}
 use Rattle.sort_store.specs.Interned.{AllInterned, Grows, HasNoRepeats, IsInterned}
 use Rattle.sort_store.specs.Tree.{Sort}
@@ -24,14 +26,10 @@ use Rattle.script_core.specs.Checking.{HasNone, IsReadyScope}
 abbrev pub with_scopes : Scopes → Scope → Scope
 with_scopes s scope = record scope { world = record scope.world { scopes = s } }
 
--- where a logic is set, declarations may be live
-under_logic : {A : Type 0} (logic : Bool) → IsTrue logic → logic ≡ false → A
-under_logic logic set unset = absurd (false≢true (sym unset ∙ set))
-
-stands_under : (scope : Scope) → IsTrue scope.logic → IsReady scope.world → IsReadyScope scope
+stands_under : (scope : Scope) → IsSome scope.logic → IsReady scope.world → IsReadyScope scope
 stands_under scope set ready = record { ready = ready; undeclared = under_logic scope.logic set }
 
-module _ (scope : Scope) (s : Scopes) (next : ℕ) (stands : IsReadyScope scope) (set : IsTrue scope.logic) where
+module _ (scope : Scope) (s : Scopes) (next : ℕ) (stands : IsReadyScope scope) (set : IsSome scope.logic) where
   abbrev after : Scope
   after = record (with_scopes s scope) { next = next }
 
@@ -66,19 +64,21 @@ ready_undeclared world none distinct datatypes numbered = record {
   numbered = numbered;
 }
 
-abbrev pub under_theories : Theories → Bool → Scope → Scope
+abbrev pub under_theories : Theories → Option Logic → Scope → Scope
 under_theories theories logic scope = record scope { world = record scope.world { theories = theories }; logic = logic }
 
 -- a logic brings its theories
-pub logic_stands : (scope : Scope) (theories : Theories) → IsReadyScope scope → scope.logic ≡ false → IsReadyScope (under_theories theories true scope)
-logic_stands scope theories stands unset =
-    stands_under (under_theories theories true scope) refl (ready_undeclared (record scope.world { theories = theories }) (stands.undeclared unset) stands.ready.distinct stands.ready.datatypes stands.ready.numbered)
+pub logic_stands : (scope : Scope) (theories : Theories) (logic : Option Logic) → IsReadyScope scope → is_some scope.logic ≡ false → IsReadyScope (under_theories theories logic scope)
+logic_stands scope theories logic stands unset = record {
+  ready = ready_undeclared (record scope.world { theories = theories }) (stands.undeclared unset) stands.ready.distinct stands.ready.datatypes stands.ready.numbered;
+  undeclared = λ e. stands.undeclared unset;
+}
 
 pub none_in : (s : Scopes) → s ≡ scopes.empty → HasNone s
 none_in s e = subst HasNone (sym e) (record { funs = refl; sorts = refl })
 
 -- nothing is declared after reset, whatever the theories are
-pub reset_stands : (scope : Scope) (s : Scopes) (theories : Theories) → IsReadyScope scope → s ≡ scopes.empty → IsReadyScope (under_theories theories false (with_scopes s scope))
+pub reset_stands : (scope : Scope) (s : Scopes) (theories : Theories) → IsReadyScope scope → s ≡ scopes.empty → IsReadyScope (under_theories theories None (with_scopes s scope))
 reset_stands scope s theories stands e = record {
   ready = ready_undeclared (record scope.world { scopes = s; theories = theories }) (none_in s e) stands.ready.distinct stands.ready.datatypes stands.ready.numbered;
   undeclared = λ unset. none_in s e;
@@ -103,7 +103,7 @@ pub store_stands : (scope : Scope) (store : List Sort) → IsReadyScope scope �
 store_stands scope store stands g distinct = grown_stands scope (record scope.world { sorts = store }) stands refl (grown scope.world store g distinct stands.ready)
 
 -- a constant is live whose sort the store has made
-pub constant_stands : (scope : Scope) (store : List Sort) (s : Scopes) (next name : ℕ) (d : FunEntry) → IsReadyScope scope → IsTrue scope.logic → Grows scope.world.sorts store → HasNoRepeats store
+pub constant_stands : (scope : Scope) (store : List Sort) (s : Scopes) (next name : ℕ) (d : FunEntry) → IsReadyScope scope → IsSome scope.logic → Grows scope.world.sorts store → HasNoRepeats store
     → s ≡ scopes.with_fun name d scope.world.scopes → d.args ≡ [] → d.params ≡ 0 → IsInterned store d.result → IsReadyScope (record (with_scopes s (with_store store scope)) { next = next })
 constant_stands scope store s next name d stands set g distinct e args params result =
     fun_stands (with_store store scope) s next (store_stands scope store stands g distinct) set name d e (record {

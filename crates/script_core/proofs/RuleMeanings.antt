@@ -1,6 +1,6 @@
 -- What the rules answer as functions is what the relation of the rules says.
-use Rattle.std.proofs.Common.{◌≡◌, ◌⊎◌, ℕ, zero, suc, ◌+◌, ◌≤◌, nat_le, take, Bool, true, false, not, ◌&&◌, ◌||◌, ◌==◌, ◌<◌, List, [], ◌∷◌, ◌++◌, length, map, append_assoc, append-nil, Result, Ok, Err, IsTrue, refl, ap, sym, ◌∙◌, subst, inl, inr, arith}
-use Rattle.std.specs.Option.{is_some}
+use Rattle.std.proofs.Common.{◌≡◌, ◌⊎◌, ℕ, zero, suc, ◌+◌, ◌≤◌, nat_le, take, Bool, true, false, not, ◌&&◌, ◌==◌, ◌<◌, List, [], ◌∷◌, ◌++◌, length, map, append_assoc, append-nil, Result, Ok, Err, IsTrue, refl, ap, sym, ◌∙◌, subst, inl, inr, arith}
+use Rattle.std.specs.Option.{IsSome, is_some, option_map}
 use Rattle.std.proofs.lemmas.Bool.{false≢true, le-leb, leb-true}
 use Rattle.std.proofs.lemmas.List.{length-map, map-append}
 use Rattle.std.proofs.Math.Seq.{take-length}
@@ -13,14 +13,13 @@ use Rattle.judgement.specs.Judging.{Judging, Outcome, ◌>>=◌, check, done, il
 use Rattle.term_grammar.specs.declared.words.TheConstants.{GLOBAL_DECLARATIONS}
 use Rattle.term_grammar.specs.Reads.{byte_of}
 use Rattle.term_store.specs.Command.{PlainCommand, PlainDef, plain_command, plain_datatype, plain_def}
-use Rattle.term_store.specs.Command as typed
 use Rattle.term_store.specs.Declarations.{datatype, declared_by, declared_in, joined, number_given, of_group, parts_of}
 use Rattle.term_store.specs.Definitions.{Definitions}
 use Rattle.term_store.specs.declared.command.Datatype.{Datatype}
 use Rattle.term_store.specs.declared.command.TypedCommand.TheVariants as kept
 use Rattle.term_store.specs.declared.command.Def.{Def}
-use Rattle.logic_frag.specs.FragmentRules.{DeclaresDatatype, DefinesRecursively, HasTerm, IsQuantifier}
-use Rattle.logic_frag.proofs.FoundParts.{has_quantified}
+use Rattle.logic_frag.specs.Following.{plain_defs}
+use Rattle.logic_frag.specs.Logics.{described}
 use Rattle.cmd_grammar.specs.Commands.{Command, FunDec, SortDec, declare_const, declare_datatype, declare_datatypes, declare_fun, declare_sort, define_fun, define_fun_rec, define_funs_rec, define_sort, echo, exit, get_info, get_option, pop, push, reset, set_info, set_logic, set_option}
 use Rattle.cmd_grammar.specs.CommandReads.{read_command}
 use Rattle.cmd_grammar.specs.Grammar.{ReadsCommand, ReadsEach, ReadsFunDec, ReadsSortDec}
@@ -37,13 +36,13 @@ use Rattle.term_store.specs.Script.{Kept, commands_of}
 use Rattle.term_store.specs.declared.command.TypedCommand.{TypedCommand}
 use Rattle.script_core.specs.declared.scope.Scope.{Scope}
 use Rattle.script_core.specs.declared.scope.Taken.{Taken}
-use Rattle.script_core.specs.Checking.{AnswersTree, TakesTree, environment_of, progress_of}
-use Rattle.script_core.specs.Effects.{AreNamed, IsDeclaredNamed, IsInMode, IsSameTo, Meets, MeetsParts}
-use Rattle.script_core.specs.Environment.{Environment, logic_theories, text_of}
+use Rattle.script_core.specs.Checking.{AnswersTree, TakesTree, environment_of, environment_with, progress_of}
+use Rattle.script_core.specs.Effects.{Answers, AreNamed, IsDeclaredNamed, IsInMode, IsSameTo, Meets, MeetsParts}
+use Rattle.script_core.specs.Environment.{Environment, logic_in}
 use Rattle.script_core.specs.Interned.{AreInterned}
 use Rattle.script_core.specs.Keeping.{EachUnused, KeepsBelow, KeepsDefined, KeepsEarlier, KeepsPart, datatypes_in, defined_in, definitions_in, group_in, with_datatypes, with_definitions}
-use Rattle.script_core.specs.RuleAnswers.{Answer, answer_fragment, answer_mode, both, declares_datatype, is_quantified, is_recursive, test}
-use Rattle.script_core.specs.Rules.{judge_fragment, judge_mode, judge_own, judge_parts, named_by, value_of, with_names_given}
+use Rattle.script_core.specs.RuleAnswers.{Answer, answer_mode, both, test}
+use Rattle.script_core.specs.Rules.{judge_mode, judge_own, judge_parts, judge_whole, named_by, value_of, with_names_given}
 use Rattle.typer.specs.TermRules.{attribute_key}
 use Rattle.typer.specs.FunctionSymbols.{datatypes_of}
 use Rattle.script_core.specs.Steps.{is_exit, judge_own_tree, judge_tree}
@@ -51,7 +50,8 @@ use Rattle.script_core.proofs.KeptNumbers.{each_unused, group_earlier, part_earl
 use Rattle.script_core.proofs.NamedLogic.{logic_of_parts}
 use Rattle.script_core.proofs.NamedWalks.{defined_joined}
 use Rattle.script_core.proofs.PlainParts.{with_none}
-use Rattle.script_core.proofs.QuietRules.{none-fragment}
+use Rattle.script_core.proofs.QuietRules.{none-whole}
+use Rattle.script_core.proofs.SetLogics.{some_described}
 use Rattle.script_core.proofs.SoundNumbers.{AscendFrom, AscendTo, ascend_first, ascend_from}
 use Rattle.script_core.proofs.GroupNumbers.{datatypes_joined, group_declared}
 use Rattle.script_core.proofs.StepNumbers.{IsNumberedStep, all_definitions, declared_split, definitions_ascend, own_by, parts_begin, parts_numbered, tree_numbered}
@@ -83,10 +83,10 @@ most_met m n rule at = test_met (m ≤ n) (nat_le m n) rule at (leb-true m n) (�
 
 mode_met : (env : Environment) (at : ℕ) (c : Command) → IsMet (judge_mode env at c) (answer_mode env at c)
 mode_met env at (set_logic n) =
-    let known = is_some (logic_theories (text_of env n)) in
-    then_met (check (env.logic ≡ false) code.LogicAlreadySet at) (check (IsTrue known) code.UnknownLogic at)
-    (test (not env.logic) code.LogicAlreadySet at) (test known code.UnknownLogic at) (not_met env.logic code.LogicAlreadySet at) (is_met known code.UnknownLogic at)
-mode_met env at (set_option a) = not_met (((attribute_key a).name == GLOBAL_DECLARATIONS) && env.logic) code.GlobalOptionTooLate at
+    let known = is_some (logic_in env n) in let set = is_some env.logic in
+    then_met (check (set ≡ false) code.LogicAlreadySet at) (check (IsTrue known) code.UnknownLogic at)
+    (test (not set) code.LogicAlreadySet at) (test known code.UnknownLogic at) (not_met set code.LogicAlreadySet at) (is_met known code.UnknownLogic at)
+mode_met env at (set_option a) = not_met (((attribute_key a).name == GLOBAL_DECLARATIONS) && is_some env.logic) code.GlobalOptionTooLate at
 mode_met env at (set_info a) = (refl, refl)
 mode_met env at (get_option k) = (refl, refl)
 mode_met env at (get_info k) = (refl, refl)
@@ -94,64 +94,16 @@ mode_met env at (echo t) = (refl, refl)
 mode_met env at reset = (refl, refl)
 mode_met env at exit = (refl, refl)
 mode_met env at (push n) =
-    then_met (check (IsTrue env.logic) code.LogicNotSet at) (check (depth env.declarations + value_of env n ≤ 65535) code.TooManyLevels at)
-    (test env.logic code.LogicNotSet at) (test (nat_le (depth env.declarations + value_of env n) 65535) code.TooManyLevels at)
-    (is_met env.logic code.LogicNotSet at) (most_met (depth env.declarations + value_of env n) 65535 code.TooManyLevels at)
+    let set = is_some env.logic in
+    then_met (check (IsTrue set) code.LogicNotSet at) (check (depth env.declarations + value_of env n ≤ 65535) code.TooManyLevels at)
+    (test set code.LogicNotSet at) (test (nat_le (depth env.declarations + value_of env n) 65535) code.TooManyLevels at)
+    (is_met set code.LogicNotSet at) (most_met (depth env.declarations + value_of env n) 65535 code.TooManyLevels at)
 mode_met env at (pop n) =
-    then_met (check (IsTrue env.logic) code.LogicNotSet at) (check (value_of env n ≤ depth env.declarations) code.TooFewLevels at)
-    (test env.logic code.LogicNotSet at) (test (nat_le (value_of env n) (depth env.declarations)) code.TooFewLevels at)
-    (is_met env.logic code.LogicNotSet at) (most_met (value_of env n) (depth env.declarations) code.TooFewLevels at)
-mode_met env at c = is_met env.logic code.LogicNotSet at
-
--- only what is recursive is asked of the logic
--- what the logic does not allow
-allowed_met : (P : Type 0) (q b : Bool) (rule : Code) (at : ℕ) → (IsTrue q → P) → (P → IsTrue q) → IsMet (check (P → IsTrue b) rule at) (test (not q || b) rule at)
-allowed_met P true b rule at into out = test_met (P → IsTrue b) b rule at (λ e p. e) (λ e h. false≢true (sym e ∙ h (into refl)))
-allowed_met P false b rule at into out = ((λ p. absurd (false≢true (out p))), refl)
-
--- two tests of one rule are the same
-pub quantified_same : (b : Bool) (c : PlainCommand) → (IsTrue b → HasTerm c (λ o. IsQuantifier o.its)) × (HasTerm c (λ o. IsQuantifier o.its) → IsTrue b) → b ≡ is_quantified c
-quantified_same b c h = let k = has_quantified (is_quantified c) c refl in one_truth b (is_quantified c) (λ e. k.1 (h.0 e)) (λ e. h.1 (k.0 e))
-  where
-    one_truth : (a b : Bool) → (IsTrue a → IsTrue b) → (IsTrue b → IsTrue a) → a ≡ b
-    one_truth true b f g = sym (f refl)
-    one_truth false true f g = g refl
-    one_truth false false f g = refl
-
-recursive_if : (c : PlainCommand) → IsTrue (is_recursive c) → DefinesRecursively c
-recursive_if (typed.define_fun_rec d) e = tt
-recursive_if (typed.define_funs_rec ds) e = tt
-recursive_if c e = absurd (false≢true e)
-
-if_recursive : (c : PlainCommand) → DefinesRecursively c → IsTrue (is_recursive c)
-if_recursive (typed.define_fun_rec d) h = refl
-if_recursive (typed.define_funs_rec ds) h = refl
-if_recursive c h = absurd h
-
-datatype_if : (c : PlainCommand) → IsTrue (declares_datatype c) → DeclaresDatatype c
-datatype_if (typed.declare_datatype t) e = tt
-datatype_if (typed.declare_datatypes ts) e = tt
-datatype_if c e = absurd (false≢true e)
-
-if_datatype : (c : PlainCommand) → DeclaresDatatype c → IsTrue (declares_datatype c)
-if_datatype (typed.declare_datatype t) h = refl
-if_datatype (typed.declare_datatypes ts) h = refl
-if_datatype c h = absurd h
-
-fragment_met : (env : Environment) (at : ℕ) (c : PlainCommand) → IsMet (judge_fragment env at c) (answer_fragment env.theories at c)
-fragment_met env at c =
-    let h = has_quantified (is_quantified c) c refl in
-    let ints = env.theories.ints in
-    let declaring = check (DeclaresDatatype c → IsTrue ints) code.DatatypeOutsideLogic at in
-    let recursive = check (DefinesRecursively c → IsTrue ints) code.RecursionOutsideLogic at in
-    let declaring_test = test (not (declares_datatype c) || ints) code.DatatypeOutsideLogic at in
-    let recursive_test = test (not (is_recursive c) || ints) code.RecursionOutsideLogic at in
-    then_met (check (HasTerm c (λ o. IsQuantifier o.its) → IsTrue ints) code.QuantifierOutsideLogic at) (declaring >>= λ u. recursive)
-    (test (not (is_quantified c) || ints) code.QuantifierOutsideLogic at) (both declaring_test recursive_test)
-    (allowed_met (HasTerm c (λ o. IsQuantifier o.its)) (is_quantified c) ints code.QuantifierOutsideLogic at h.0 h.1)
-    (then_met declaring recursive declaring_test recursive_test
-    (allowed_met (DeclaresDatatype c) (declares_datatype c) ints code.DatatypeOutsideLogic at (datatype_if c) (if_datatype c))
-    (allowed_met (DefinesRecursively c) (is_recursive c) ints code.RecursionOutsideLogic at (recursive_if c) (if_recursive c)))
+    let set = is_some env.logic in
+    then_met (check (IsTrue set) code.LogicNotSet at) (check (value_of env n ≤ depth env.declarations) code.TooFewLevels at)
+    (test set code.LogicNotSet at) (test (nat_le (value_of env n) (depth env.declarations)) code.TooFewLevels at)
+    (is_met set code.LogicNotSet at) (most_met (value_of env n) (depth env.declarations) code.TooFewLevels at)
+mode_met env at c = is_met (is_some env.logic) code.LogicNotSet at
 
 -- a logic is set, or none, where the mode is right
 first_right : (r s : Answer) → both r s ≡ Ok tt → r ≡ Ok tt
@@ -166,8 +118,8 @@ unset_right : (b : Bool) (rule : Code) (at : ℕ) → test (not b) rule at ≡ O
 unset_right true rule at e = cc
 unset_right false rule at e = refl
 
-in_mode : (env : Environment) (at : ℕ) (c : Command) → answer_mode env at c ≡ Ok tt → IsInMode env.logic c
-in_mode env at (set_logic n) e = unset_right env.logic code.LogicAlreadySet at (first_right _ _ e)
+in_mode : (env : Environment) (at : ℕ) (c : Command) → answer_mode env at c ≡ Ok tt → IsInMode (is_some env.logic) c
+in_mode env at (set_logic n) e = unset_right (is_some env.logic) code.LogicAlreadySet at (first_right _ _ e)
 in_mode env at (set_option a) e = tt
 in_mode env at (set_info a) e = tt
 in_mode env at (get_option k) e = tt
@@ -175,41 +127,51 @@ in_mode env at (get_info k) e = tt
 in_mode env at (echo t) e = tt
 in_mode env at reset e = tt
 in_mode env at exit e = tt
-in_mode env at (push n) e = test_right env.logic code.LogicNotSet at (first_right _ _ e)
-in_mode env at (pop n) e = test_right env.logic code.LogicNotSet at (first_right _ _ e)
-in_mode env at c e = test_right env.logic code.LogicNotSet at e
+in_mode env at (push n) e = test_right (is_some env.logic) code.LogicNotSet at (first_right _ _ e)
+in_mode env at (pop n) e = test_right (is_some env.logic) code.LogicNotSet at (first_right _ _ e)
+in_mode env at c e = test_right (is_some env.logic) code.LogicNotSet at e
 
-pub command_in_mode : (env : Environment) (at : ℕ) (c : Command) → answer_mode env at c ≡ Ok tt → IsInMode env.logic c
-command_in_mode env at c e = in_mode env at c e
+-- .. and so it is in the scope, before the names of the command are counted and after
+pub command_in_mode : (old here : Scope) (at : ℕ) (c : Command) → answer_mode (environment_of old.world.names old) at c ≡ Ok tt → IsSameTo old here → IsInMode (is_some here.logic) c
+command_in_mode old here at c e same =
+    subst (λ (b : Bool). IsInMode b c) (ap (λ (v : Environment). is_some v.logic) (sym same) ∙ some_described here.logic) (in_mode (environment_of old.world.names old) at c e)
 
 -- the typed command, as it is answered
 abbrev pub typed_in : Environment → TypedCommand → PlainCommand × Environment
 typed_in env c = (plain_command c, env)
 
--- .. with its named terms
-abbrev pub taken_in : Environment → Taken → PlainCommand × Environment
-taken_in env taken = (plain_command taken.command, env)
+-- .. with its named terms, once its definitions are kept
+abbrev pub taken_in : Scope → Scope → Taken → PlainCommand × Environment
+taken_in old new taken = (plain_command taken.command, environment_with old new (plain_command taken.command))
 
 -- what a tree leads to before its named terms are live
 abbrev pub MeetsOwn : Environment → Sexp Tok → Result TypedCommand StepError → Environment → List ℕ → Type 0
 MeetsOwn env t result new after = Meets (judge_own_tree env t) (typed_in new) result [] after
 
-abbrev pub MeetsTree : Scope → Sexp Tok → Result Taken StepError → Environment → List ℕ → Type 0
-MeetsTree old t result new after = Meets (judge_tree (environment_of old.world.names old) t) (taken_in new) result [] after
+abbrev pub MeetsTree : Scope → Sexp Tok → Result Taken StepError → Scope → List ℕ → Type 0
+MeetsTree old t result new after = Meets (judge_tree (environment_of old.world.names old) t) (taken_in old new) result [] after
 
--- the judgement has this outcome after these names, and declares none
-abbrev pub MetAfter : Judging (Unit {0}) → List ℕ → Answer → Type 0
-MetAfter J names (Ok u) = J names (well_sorted u names)
-MetAfter J names (Err place) = J names (ill_sorted place)
+-- what the environment allows, as the program judges it
+abbrev pub judge_under : Environment → ℕ → PlainCommand → Judging (Unit {0})
+judge_under env at c = judge_whole env.logic env.names env.definitions at c
 
--- the parts of a command, and whether the logic allows it
+abbrev pub MeetsWhole : Environment → ℕ → PlainCommand → Result (Unit {0}) StepError → Type 0
+MeetsWhole env at c result = Answers (judge_under env at c) (λ u. tt) result
+
+-- the parts of a command, and the rules on it as a whole
 abbrev judge_rest : Environment → ℕ → Command → Judging (PlainCommand × Environment)
-judge_rest env at c = judge_parts env at c >>= (λ made. judge_fragment env at made.0 >>= (λ w. done made))
+judge_rest env at c = judge_parts env at c >>= (λ made. judge_under env at made.0 >>= (λ w. done made))
 
--- whether the logic allows a command does not depend on the names that it has declared
-fragment_after : (env : Environment) (at : ℕ) (c : PlainCommand) (names : List ℕ) (r : Answer) → IsMet (judge_fragment env at c) r → MetAfter (judge_fragment env at c) names r
-fragment_after env at c names (Ok tt) h = (none-fragment env at c [] (well_sorted tt []) h).1 names
-fragment_after env at c names (Err p) h = none-fragment env at c [] (ill_sorted p) h names
+-- the scope has changed in nothing that the rules on a whole command look at
+pub whole_moved : (old new : Scope) (defs : Definitions) (at : ℕ) (c : TypedCommand) (r : Result (Unit {0}) StepError) → new.world.names ≡ old.world.names → plain_defs defs ≡ plain_defs old.world.script.defs
+    → Answers (judge_whole (option_map described old.logic) new.world.names (plain_defs defs) at (plain_command c)) (λ u. tt) r → MeetsWhole (environment_of old.world.names old) at (plain_command c) r
+whole_moved old new defs at c r names same h =
+    subst (λ (ns : List (List ℕ)). Answers (judge_whole (option_map described old.logic) ns (plain_defs old.world.script.defs) at (plain_command c)) (λ u. tt) r) names
+    (subst (λ (ds : List PlainDef). Answers (judge_whole (option_map described old.logic) new.world.names ds at (plain_command c)) (λ u. tt) r) same h)
+
+-- no definition comes with the datatypes of a group
+pub same_definitions : (old new : Kept) (defs : Definitions) (c : TypedCommand) → defs ≡ new.defs → new ≡ with_datatypes old (group_in c) → plain_defs defs ≡ plain_defs old.defs
+same_definitions old new defs c here grown = ap plain_defs here ∙ ap (λ (k : Kept). plain_defs k.defs) grown
 
 -- the tree is read as no command
 pub tree_no_command : (env new : Environment) (after : List ℕ) (t : Sexp Tok) (e : GrError) (p : Place) → e ≡ grammar.Fault p → ReadAnswers t (Err e) → MeetsOwn env t (Err (error.Broken p)) new after
@@ -246,20 +208,17 @@ module _ (env new : Environment) (after : List ℕ) (t : Sexp Tok) (c : Command)
   tree_refused error.NoMemory parts = tt
   tree_refused (error.Broken p) parts = judged_rest (ill_sorted p) (inl parts)
 
-  module _ (command : TypedCommand) (r : Answer) (parts : MeetsParts env at c (Ok command) new after) (asked : r ≡ answer_fragment env.theories at (plain_command command)) where
-    met_here : IsMet (judge_fragment env at (plain_command command)) r
-    met_here = subst (λ (x : Answer). IsMet (judge_fragment env at (plain_command command)) x) (sym asked) (fragment_met env at (plain_command command))
-
-    -- the logic allows it, or not
-    pub tree_allowed : r ≡ Ok tt → MeetsOwn env t (Ok command) new after
-    tree_allowed fine =
+  module _ (command : TypedCommand) (parts : MeetsParts env at c (Ok command) new after) where
+    -- the rules on the whole command are met, or not; they do not depend on the names that it has declared
+    pub tree_allowed : MeetsWhole env at (plain_command command) (Ok tt) → MeetsOwn env t (Ok command) new after
+    tree_allowed whole =
         judged_rest (well_sorted (typed_in new command) after)
-        (typed_in new command, after, parts, (tt, after, fragment_after env at (plain_command command) after (Ok tt) (subst (λ (x : Answer). IsMet (judge_fragment env at (plain_command command)) x) fine met_here), (refl, refl)))
+        (typed_in new command, after, parts, (tt, after, (none-whole env.logic env.names env.definitions at (plain_command command) [] (well_sorted tt []) whole).1 after, (refl, refl)))
 
-    pub tree_outside : (p : Place) → r ≡ Err p → MeetsOwn env t (Err (error.Broken p)) new after
-    tree_outside p bad =
-        judged_rest (ill_sorted p)
-        (inr (typed_in new command, after, parts, inl (fragment_after env at (plain_command command) after (Err p) (subst (λ (x : Answer). IsMet (judge_fragment env at (plain_command command)) x) bad met_here))))
+    pub tree_outside : (e : StepError) → MeetsWhole env at (plain_command command) (Err e) → MeetsOwn env t (Err e) new after
+    tree_outside error.NoMemory whole = tt
+    tree_outside (error.Broken p) whole =
+        judged_rest (ill_sorted p) (inr (typed_in new command, after, parts, inl (none-whole env.logic env.names env.definitions at (plain_command command) [] (ill_sorted p) whole after)))
 
 -- The named terms are live: what a tree leads to before that and after.
 module _ (old own new : Scope) (t : Sexp Tok) (after : List ℕ) where
@@ -269,15 +228,16 @@ module _ (old own new : Scope) (t : Sexp Tok) (after : List ℕ) where
   abbrev own_env : Environment
   own_env = environment_of old.world.names own
 
-  pub own_fault : (e : StepError) (last : List ℕ) → MeetsOwn before_env t (Err e) own_env after → Meets {A = Taken} (judge_tree before_env t) (taken_in (environment_of old.world.names new)) (Err e) [] last
+  pub own_fault : (e : StepError) (last : List ℕ) → MeetsOwn before_env t (Err e) own_env after → MeetsTree old t (Err e) new last
   own_fault error.NoMemory last h = tt
   own_fault (error.Broken p) last (inl g) = inl g
   own_fault (error.Broken p) last (inr (c, between, reads, h)) = inr (c, between, reads, inl h)
 
   pub own_taken : (taken : Taken) (last : List ℕ) → MeetsOwn before_env t (Ok taken.command) own_env after → last ≡ after
-      → environment_of old.world.names new ≡ with_names_given own_env (defined_in (named_by (plain_command taken.command))) → Meets (judge_tree before_env t) (taken_in (environment_of old.world.names new)) (Ok taken) [] last
+      → environment_of old.world.names new ≡ with_names_given own_env (defined_in (named_by (plain_command taken.command))) → MeetsTree old t (Ok taken) new last
   own_taken taken last (c, between, reads, h) same effect =
-      (c, between, reads, (typed_in own_env taken.command, after, h, (ap (λ (e : Environment). (plain_command taken.command, e)) effect, same)))
+      let command = plain_command taken.command in
+      (c, between, reads, (typed_in own_env taken.command, after, h, (ap (λ (e : Environment). (command, record e { definitions = before_env.definitions ++ defined_in (declared_by command) })) effect, same)))
 
 -- the named terms, under the names of before
 pub names_under : (old own new : Scope) (defs : List PlainDef) (shown : List Def) → own.world.names ≡ old.world.names → environment_of own.world.names new ≡ with_names_given (environment_of own.world.names own) (map plain_def shown)
@@ -286,16 +246,19 @@ names_under old own new defs shown names effect same =
     subst (λ (ns : List (List ℕ)). environment_of ns new ≡ with_names_given (environment_of ns own) defs) names (effect ∙ ap (with_names_given (environment_of own.world.names own)) same)
 
 -- a logic is set where a command names terms
-pub names_logic : (env new : Environment) (t : Sexp Tok) (c : TypedCommand) (after : List ℕ) (named : List Def) → MeetsOwn env t (Ok c) new after → map plain_def named ≡ defined_in (named_by (plain_command c)) → 0 < length named → IsTrue new.logic
-names_logic env new t c after named (raw, first, reads, (v, second, mode, (made, third, parts, (w, fourth, fragment, (g, i))))) same some =
+named_logic : (env new : Environment) (t : Sexp Tok) (c : TypedCommand) (after : List ℕ) (named : List Def) → MeetsOwn env t (Ok c) new after → map plain_def named ≡ defined_in (named_by (plain_command c)) → 0 < length named → IsSome new.logic
+named_logic env new t c after named (raw, first, reads, (v, second, mode, (made, third, parts, (w, fourth, fragment, (g, i))))) same some =
     let command : made.0 ≡ plain_command c = sym (ap (λ (p : PlainCommand × Environment). p.0) g) in
     let env_is : made.1 ≡ new = sym (ap (λ (p : PlainCommand × Environment). p.1) g) in
-    subst (λ (e : Environment). IsTrue e.logic) env_is
+    subst (λ (e : Environment). IsSome e.logic) env_is
     (logic_of_parts env _ raw made.0 made.1 first second second third mode parts (λ none. (let no_defs : map plain_def named ≡ [] = same ∙ ap (λ (x : PlainCommand). defined_in (named_by x)) (sym command) ∙ ap defined_in none in
     omega (arith, some, ap length no_defs, length-map named plain_def))))
 
+pub names_logic : (env : Environment) (texts : List (List ℕ)) (own : Scope) (t : Sexp Tok) (c : TypedCommand) (after : List ℕ) (named : List Def) → MeetsOwn env t (Ok c) (environment_of texts own) after → map plain_def named ≡ defined_in (named_by (plain_command c)) → 0 < length named → IsSome own.logic
+names_logic env texts own t c after named meets same some = sym (some_described own.logic) ∙ named_logic env (environment_of texts own) t c after named meets same some
+
 -- the tree breaks a rule, or wants memory
-pub tree_fault : (old after : Scope) (new : Environment) (names : List ℕ) (t : Sexp Tok) (e : StepError) → MeetsTree old t (Err e) new names → AnswersTree old t (Err e) after
+pub tree_fault : (old after new : Scope) (names : List ℕ) (t : Sexp Tok) (e : StepError) → MeetsTree old t (Err e) new names → AnswersTree old t (Err e) after
 tree_fault old after new names t error.NoMemory h = tt
 tree_fault old after new names t (error.Broken p) h = h
 
@@ -351,8 +314,11 @@ own_earlier env new t c after old script (raw, first, reads, (v, second, mode, (
     parts_earlier env (byte_of t) raw c new third old script (subst (λ (p : PlainCommand × Environment). judge_parts env (byte_of t) raw [] (well_sorted p third)) (sym g) here) kept
 
 -- A command that was taken with its named terms.
-module _ (old : Scope) (new : Environment) (names : List ℕ) (t : Sexp Tok) (taken : Taken) (shown : List Def) (seen : shown ≡ taken.named.items) (judged : MeetsTree old t (Ok taken) new names)
+module _ (old mid : Scope) (names : List ℕ) (t : Sexp Tok) (taken : Taken) (shown : List Def) (seen : shown ≡ taken.named.items) (judged : MeetsTree old t (Ok taken) mid names)
     (same : map plain_def taken.named.items ≡ defined_in (named_by (plain_command taken.command))) where
+  abbrev new : Environment
+  new = environment_with old mid (plain_command taken.command)
+
   abbrev all_defs : List Def
   all_defs = definitions_in taken.command ++ shown
 
@@ -427,20 +393,25 @@ pub same_datatypes : (old kept new : Kept) (c : TypedCommand) (defs : List Def) 
 same_datatypes old kept new c defs with_own pushed = sym (ap datatypes_of pushed ∙ ap datatypes_of with_own)
 
 -- the tree is read as a command, which is put last
-pub tree_takes : (old mid : Scope) (kept after : Kept) (names : List ℕ) (t : Sexp Tok) (taken : Taken) (shown : List Def) (p : Progress) → shown ≡ taken.named.items → MeetsTree old t (Ok taken) (environment_of old.world.names mid) names
+pub tree_takes : (old mid : Scope) (kept after : Kept) (names : List ℕ) (t : Sexp Tok) (taken : Taken) (shown : List Def) (p : Progress) → shown ≡ taken.named.items → MeetsTree old t (Ok taken) mid names
     → map plain_def taken.named.items ≡ defined_in (named_by (plain_command taken.command)) → mid.world.script ≡ with_datatypes old.world.script (group_in taken.command) → kept ≡ with_definitions mid.world.script (definitions_in taken.command ++ shown)
     → after ≡ record { commands = kept.commands ++ taken.command ∷ []; defs = kept.defs } → p ≡ progress_of (is_exit (plain_command taken.command)) → TakesTree old t p (record mid { world = record mid.world { script = after } })
-tree_takes old mid kept after names t taken shown p seen h named same with_own pushed goes = record {
-  command = plain_command taken.command;
-  declared = names;
-  judged = subst (λ ds. judge_tree (environment_of old.world.names old) t [] (well_sorted (plain_command taken.command, record (environment_of old.world.names mid) { datatypes = ds }) names))
-      (same_datatypes mid.world.script kept after taken.command (definitions_in taken.command ++ shown) with_own pushed) h;
-  goes_on = goes;
-  put_last = ap commands_of pushed
-      ∙ (map-append plain_command kept.commands (taken.command ∷ []) ∙ (ap (λ (k : Kept). commands_of k ++ plain_command taken.command ∷ []) with_own ∙ ap (λ (k : Kept). commands_of k ++ plain_command taken.command ∷ []) same));
-  keeps = keeps_more old.world.script kept after taken.command (definitions_in taken.command ++ shown) (all_defined old (environment_of old.world.names mid) names t taken shown seen h named)
-      (with_own ∙ ap (λ (k : Kept). with_definitions k (definitions_in taken.command ++ shown)) same) pushed;
-}
+tree_takes old mid kept after names t taken shown p seen h named same with_own pushed goes =
+    let own = definitions_in taken.command ++ shown in
+    let script = with_own ∙ ap (λ (k : Kept). with_definitions k own) same in
+    let definitions : plain_defs after.defs ≡ plain_defs old.world.script.defs ++ defined_in (declared_by (plain_command taken.command)) =
+    ap (λ (k : Kept). plain_defs k.defs) pushed ∙ (ap (λ (k : Kept). plain_defs k.defs) script
+    ∙ (map-append plain_def old.world.script.defs.defs own ∙ ap (λ ds. plain_defs old.world.script.defs ++ ds) (all_defined old mid names t taken shown seen h named))) in record {
+      command = plain_command taken.command;
+      declared = names;
+      judged = subst (λ ts. judge_tree (environment_of old.world.names old) t [] (well_sorted (plain_command taken.command, record (environment_of old.world.names mid) { datatypes = ts; definitions = plain_defs after.defs }) names))
+          (same_datatypes mid.world.script kept after taken.command own with_own pushed)
+          (subst (λ ds. judge_tree (environment_of old.world.names old) t [] (well_sorted (plain_command taken.command, record (environment_of old.world.names mid) { definitions = ds }) names)) (sym definitions) h);
+      goes_on = goes;
+      put_last = ap commands_of pushed
+          ∙ (map-append plain_command kept.commands (taken.command ∷ []) ∙ (ap (λ (k : Kept). commands_of k ++ plain_command taken.command ∷ []) with_own ∙ ap (λ (k : Kept). commands_of k ++ plain_command taken.command ∷ []) same));
+      keeps = keeps_more old.world.script kept after taken.command own (all_defined old mid names t taken shown seen h named) script pushed;
+    }
 
 second_interned : (texts : List (List ℕ)) (at : ℕ) (a b : Tok) (rest : List (FlatToken Tok)) → AreInterned texts (Opening at ∷ Word a ∷ Word b ∷ rest) → b.name < length texts
 second_interned texts at a b rest (x, (y, z)) = y

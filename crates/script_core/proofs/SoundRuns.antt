@@ -25,7 +25,7 @@ use Rattle.script_core.specs.Acceptance.{Refuses, Sofar}
 use Rattle.script_core.specs.Environment.{Environment, signature_in, start}
 use Rattle.script_core.specs.Keeping.{KeepsBelow, KeepsDefined, KeepsEarlier, datatypes_in, defined_in}
 use Rattle.script_core.specs.Numbering.{numbered_sexp, table_after}
-use Rattle.script_core.specs.Rules.{judge_parts, named_by, with_names_given}
+use Rattle.script_core.specs.Rules.{judge_parts, named_by, with_defined, with_names_given}
 use Rattle.script_core.specs.Steps.{Cause, ListSteps, Run, Runs, after_command, all_taken, broken, exited, stopped, with_names}
 use Rattle.script_core.proofs.KeptNumbers.{datatypes_below, declared_found, each_kept, kept_below}
 use Rattle.script_core.proofs.SoundNumbers.{ascend_below, ascend_from, distinct_numbers}
@@ -73,7 +73,8 @@ list_step script env t c new sound (declared, (raw, between, reads, (made, later
     let known = subst (Declares script) same declares in
     let s = with_names_live script (with_names env t) own.0 own.1 (parts_step script (with_names env t) named _ raw own.0 own.1 between second second third mode parts known) numbered known in
     subst (λ (p : PlainCommand × Environment). IsSoundList script env p.0 p.1) (sym e)
-    (subst (λ (p : PlainCommand × Environment). IsSoundList script env p.0 (with_names_given p.1 (defined_in (named_by p.0)))) (sym g) (record { leads = s.leads; levels = s.levels; declarations = s.declarations; command = s.command }))
+    (subst (λ (p : PlainCommand × Environment). IsSoundList script env p.0 (with_defined (with_names env t) p.0 p.1)) (sym g)
+    (record { leads = record { signature = s.leads.signature; below = s.leads.below }; levels = s.levels; declarations = s.declarations; command = s.command }))
 
 -- The commands of a run are sound, and it leads to a sound signature, where the script declares all that they declare.
 pub record IsSoundRun (script : List Declaration) (env : Environment) (run : Run) : Type 0 where

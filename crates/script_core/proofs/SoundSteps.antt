@@ -36,8 +36,8 @@ use Rattle.typer.proofs.SoundNames.{IsSoundAnywhere, named_sound}
 use Rattle.typer.proofs.SoundTerms.{sound_term}
 use Rattle.typer.specs.Declarations.{Declarations, FunDeclaration, SortDeclaration, defined_sort, depth, free_sort, with_fun, with_global, with_popped, with_pushed, with_sort, without_assertions}
 use Rattle.typer.specs.Soundness.{HasSoundSorts, IsSoundFunction, IsSoundSignature, IsSoundSortSymbol}
-use Rattle.script_core.specs.Environment.{Environment, signature_from, signature_in, start as start_env, theories_of}
-use Rattle.script_core.specs.Rules.{Header, after_option, defined, is_true, judge_body, judge_bool, judge_header, judge_headers, judge_literals, judge_members, judge_mode, judge_parts, judge_variables, named_by, next_number, unchanging, value_of, with_defined_sort, with_free_sort, with_function, with_group, with_header, with_headers}
+use Rattle.script_core.specs.Environment.{Environment, logic_in, signature_from, signature_in, start as start_env}
+use Rattle.script_core.specs.Rules.{Header, after_option, defined, is_true, judge_body, judge_bool, judge_header, judge_headers, judge_literals, judge_members, judge_mode, judge_parts, judge_variables, named_by, next_number, unchanging, value_of, with_defined_sort, with_free_sort, with_function, with_group, with_header, with_headers, with_logic}
 use Rattle.typer.specs.TermRules.{attribute_key, attribute_value}
 use Rattle.script_core.proofs.ApartNames.{variables_apart}
 use Rattle.script_core.proofs.GroupNumbers.{AreCounted, group_counted, single_counted}
@@ -292,9 +292,9 @@ module _ (script : List Declaration) (env : Environment) (sound : IsSoundEnv scr
       (sound_with env.next (with_popped n env.declarations) (all_of_each OfSort _ (each_closed OfSort n env.declarations.sorts sorts_each)) (all_of_each (OfFun env.next) _ (each_closed (OfFun env.next) n env.declarations.funs funs_now)))
       (λ cs h. (enough, subst (λ (m : ℕ). KeepsLevels m cs) (length-closed n env.declarations.funs) h)) refl (no_names script env.next) tt
 
-  reset_step : IsSoundStep script env typed.reset (record start_env { names = env.names; datatypes = env.datatypes; next = env.next })
+  reset_step : IsSoundStep script env typed.reset (record start_env { names = env.names; datatypes = env.datatypes; definitions = env.definitions; next = env.next })
   reset_step =
-      quiet typed.reset (record start_env { names = env.names; datatypes = env.datatypes; next = env.next }) (record {
+      quiet typed.reset (record start_env { names = env.names; datatypes = env.datatypes; definitions = env.definitions; next = env.next }) (record {
         signature = record { table = sound.signature.table; sorts = all_of_each OfSort [] tt; funs = all_of_each (λ (d : ℕ × FunDeclaration). IsSoundFunction script d.1) [] tt; datatypes = sound.signature.datatypes };
         below = all_of_each (λ (d : ℕ × FunDeclaration). d.1.number.0 < env.next) [] tt;
       }) (λ cs h. h) refl (no_names script env.next) tt
@@ -485,15 +485,15 @@ module _ (script : List Declaration) (env : Environment) (sound : IsSoundEnv scr
       let l = terms_sound script env sound ts us before between h in
       step_of script env c (typed.get_value us) new env e (λ known. quiet script env sound (typed.get_value us) env sound (λ cs k. k) refl l.1 (all_of_each (IsSoundIn script) us l.0)) declares
   parts_step at (set_logic n) c new first second before after mode (e, f) declares =
-      step_of script env c (typed.set_logic n.name) new (record env { logic = true; theories = theories_of env n }) e
-      (λ known. quiet script env sound (typed.set_logic n.name) (record env { logic = true; theories = theories_of env n }) (record { signature = record { table = sound.signature.table; sorts = sound.signature.sorts; funs = sound.signature.funs; datatypes = sound.signature.datatypes }; below = sound.below }) (λ cs k. k) refl (no_names script env.next) tt) declares
+      step_of script env c (typed.set_logic n.name) new (with_logic (logic_in env n) env) e
+      (λ known. quiet script env sound (typed.set_logic n.name) (with_logic (logic_in env n) env) (record { signature = record { table = sound.signature.table; sorts = sound.signature.sorts; funs = sound.signature.funs; datatypes = sound.signature.datatypes }; below = sound.below }) (λ cs k. k) refl (no_names script env.next) tt) declares
   parts_step at (set_option a) c new first second before after mode (e, f) declares =
       step_of script env c (typed.set_option (attribute_key a).name (attribute_value a)) new (after_option env a) e (λ known. option_step script env sound a (attribute_key a).name (attribute_value a)) declares
   parts_step at (push n) c new first second before after mode (e, f) declares =
       step_of script env c (typed.push (value_of env n)) new (record env { declarations = with_pushed (value_of env n) env.declarations }) e (λ known. push_step script env sound (value_of env n) mode.3.0) declares
   parts_step at (pop n) c new first second before after mode (e, f) declares =
       step_of script env c (typed.pop (value_of env n)) new (record env { declarations = with_popped (value_of env n) env.declarations }) e (λ known. pop_step script env sound (value_of env n) mode.3.0) declares
-  parts_step at reset c new first second before after mode (e, f) declares = step_of script env c typed.reset new (record start_env { names = env.names; datatypes = env.datatypes; next = env.next }) e (λ known. reset_step script env sound) declares
+  parts_step at reset c new first second before after mode (e, f) declares = step_of script env c typed.reset new (record start_env { names = env.names; datatypes = env.datatypes; definitions = env.definitions; next = env.next }) e (λ known. reset_step script env sound) declares
   parts_step at reset_assertions c new first second before after mode (e, f) declares =
       step_of script env c typed.reset_assertions new (record env { declarations = without_assertions env.declarations }) e (λ known. forgotten_step script env sound) declares
   parts_step at raw c new first second before after mode h declares = found_step script env sound raw at c new before after h declares

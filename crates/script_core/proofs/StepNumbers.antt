@@ -24,7 +24,7 @@ use Rattle.typer.specs.NamedTerms.{AreNamedAfter}
 use Rattle.logic_frag.specs.FragmentRules.{own_definitions}
 use Rattle.script_core.specs.Environment.{Environment, signature_from, signature_in, start as start_env}
 use Rattle.script_core.specs.Keeping.{defined_in, definitions_in}
-use Rattle.script_core.specs.Rules.{Header, after_option, declare_each, defined, judge_body, judge_header, judge_headers, judge_members, judge_mode, judge_parts, named_by, next_number, unchanging, value_of, with_free_sort, with_function, with_group, with_header, with_headers, with_name, with_names_given}
+use Rattle.script_core.specs.Rules.{Header, after_option, declare_each, defined, judge_body, judge_header, judge_headers, judge_members, judge_mode, judge_parts, named_by, next_number, unchanging, value_of, with_defined, with_free_sort, with_function, with_group, with_header, with_headers, with_name, with_names_given}
 use Rattle.typer.specs.TermRules.{attribute_key, attribute_value}
 use Rattle.script_core.specs.Steps.{ListSteps, Run, Runs, judge_grammar, judge_tree, with_names}
 use Rattle.script_core.proofs.GivenNames.{body_given, bool_given, each_after, literals_given, members_given, terms_given}
@@ -273,12 +273,16 @@ whole_numbered env c made h = record {
   own = ap defined_in (declared_split c) ∙ (defined_joined (own_by c) (named_by c) ∙ ap (λ (ds : List PlainDef). ds ++ defined_in (named_by c)) h.own);
 }
 
+-- what is kept has no part in the numbers
+kept_numbered : (env : Environment) (c : PlainCommand) (made : Environment) → IsNumberedStep env c (with_names_given made (defined_in (named_by c))) → IsNumberedStep env c (with_defined env c made)
+kept_numbered env c made h = record { ascend = h.ascend; own = h.own }
+
 pub tree_numbered : (env : Environment) (t : Sexp Tok) (c : PlainCommand) (new : Environment) (after : List ℕ) → judge_tree env t [] (well_sorted (c, new) after) → IsNumberedStep env c new
 tree_numbered env t c new after (raw, between, reads, (made, later, (v, second, mode, (own, third, parts, (w, fourth, fragment, (g, i)))), (e, f))) =
     let begins = parts_begin env t raw _ between second reads mode in
     let numbered = parts_numbered env _ raw own.0 own.1 third (subst (λ (ns : List ℕ). judge_parts env (byte_of t) raw ns (well_sorted own third)) begins parts) in
     subst (λ (p : PlainCommand × Environment). IsNumberedStep env p.0 p.1) (sym e)
-    (subst (λ (p : PlainCommand × Environment). IsNumberedStep env p.0 (with_names_given p.1 (defined_in (named_by p.0)))) (sym g) (whole_numbered env own.0 own.1 numbered))
+    (subst (λ (p : PlainCommand × Environment). IsNumberedStep env p.0 (with_defined env p.0 p.1)) (sym g) (kept_numbered env own.0 own.1 (whole_numbered env own.0 own.1 numbered)))
 
 list_ascends : (env : Environment) (t : Sexp Token) (c : PlainCommand) (new : Environment) → ListSteps env t c new → AscendTo env.next (map number_given (declared_by c)) new.next
 list_ascends env t c new (declared, steps) = (tree_numbered (with_names env t) _ c new declared steps).ascend

@@ -1,5 +1,6 @@
 -- Functions that are defined together, from what the calls answer.
 use Rattle.std.proofs.Common.{◌≡◌, ℕ, zero, suc, ◌<◌, true, IsTrue, List, [], ◌∷◌, ◌++◌, length, map, slice_index_or, Option, Some, None, Result, Ok, Err, refl, ap, sym, ◌∙◌, subst, inl, inr, arith, append_assoc, append-nil}
+use Rattle.std.specs.Option.{IsSome, is_some}
 use Rattle.std.specs.List.{All}
 use Rattle.std.proofs.lemmas.List.{map-append}
 use Rattle.std.proofs.lemmas.List.Elements.{All-push}
@@ -30,6 +31,7 @@ use Rattle.script_core.specs.Effects.{Answers, AreNamed, BeginsNames, DeclaresNo
 use Rattle.script_core.specs.Environment.{Environment}
 use Rattle.script_core.specs.RuleAnswers.{fun_decs_left, terms_left}
 use Rattle.script_core.specs.Rules.{Header, declare_each, defined, judge_body, judge_header, judge_headers, judge_member, judge_members, with_header, with_headers}
+use Rattle.script_core.proofs.SetLogics.{some_described}
 use Rattle.script_core.proofs.TakingDefinitions.{HasNamed, header_later, named_ready}
 use Rattle.script_core.proofs.TakingLists.{Onward, onward_end, onward_fault, onward_part, onward_start}
 use Rattle.script_core.proofs.TakingParts.{here_env, same_names, same_pair}
@@ -114,8 +116,9 @@ headers_names : (env : Environment) (hs : List Header) → (with_headers env hs)
 headers_names env [] = refl
 headers_names env (h ∷ hs) = headers_names (with_header env h) hs
 
-pub logic_set : (names : List (List ℕ)) (old new : Scope) (hs : List Header) → environment_of names new ≡ with_headers (environment_of names old) hs → IsTrue old.logic → IsTrue new.logic
-logic_set names old new hs reached set = ap (λ (e : Environment). e.logic) reached ∙ (headers_logic (environment_of names old) hs ∙ set)
+pub logic_set : (names : List (List ℕ)) (old new : Scope) (hs : List Header) → environment_of names new ≡ with_headers (environment_of names old) hs → IsSome old.logic → IsSome new.logic
+logic_set names old new hs reached set =
+    sym (some_described new.logic) ∙ (ap (λ (e : Environment). is_some e.logic) reached ∙ (ap is_some (headers_logic (environment_of names old) hs) ∙ (some_described old.logic ∙ set)))
 
 -- The members of the group, with the terms that are left, where the first name that the command declares has this number.
 abbrev pub members : ℕ → Environment → ℕ → Unit {0} → List Header × Terms → Judging (List PlainDef)

@@ -1,5 +1,6 @@
 -- Where a checker stands after the bytes that it took.
-use Rattle.std.specs.Prelude.{◌≡◌, ◌⊎◌, ℕ, ◌+◌, ◌*◌, ◌≤◌, Bool, true, false, List, [], ◌∷◌, ◌++◌, length, map, None, Result, Ok, Err}
+use Rattle.std.specs.Prelude.{◌≡◌, ◌⊎◌, ℕ, ◌+◌, ◌*◌, ◌≤◌, Bool, true, false, List, [], ◌∷◌, ◌++◌, length, map, option_map, None, Result, Ok, Err}
+use Rattle.std.specs.Option.{is_some}
 use Rattle.lex_core.specs.LexerCalls.{HasRead}
 use Rattle.lex_core.specs.NameTable.{IsNameTable}
 use Rattle.lex_core.specs.Token.{Token, token_of}
@@ -8,7 +9,10 @@ use Rattle.sexp_core.specs.Reading.{IsList, Reads, TreeFault}
 use Rattle.sexp_core.specs.Sexp.{FlatToken, Sexp, flat, map_flat}
 use Rattle.sexp_core.specs.Tokens.{flat_token, flat_tokens}
 use Rattle.term_store.specs.Command.{PlainCommand}
+use Rattle.term_store.specs.Declarations.{declared_by}
 use Rattle.term_store.specs.Script.{commands_of}
+use Rattle.logic_frag.specs.Following.{plain_defs}
+use Rattle.logic_frag.specs.Logics.{described}
 use Rattle.judgement.specs.Judging.{ill_sorted, well_sorted}
 use Rattle.typer.specs.Declarations.{declarations_of}
 use Rattle.scope_stack.specs.Environment.{Environment as Scopes}
@@ -27,7 +31,7 @@ use Rattle.script_core.specs.declared.scope.StepError.TheVariants as error
 use Rattle.script_core.specs.Acceptance.{Accepts, Refuses, Sofar, place_of}
 use Rattle.script_core.specs.Environment.{Environment, start}
 use Rattle.script_core.specs.Interned.{AreInterned}
-use Rattle.script_core.specs.Keeping.{KeepsDefined}
+use Rattle.script_core.specs.Keeping.{KeepsDefined, defined_in}
 use Rattle.script_core.specs.Numbering.{table_after}
 use Rattle.script_core.specs.Steps.{all_taken, exited, ListFault, Run, Runs, is_exit, judge_tree}
 
@@ -38,7 +42,11 @@ texts_of texts tokens = map (map_flat (token_of texts)) tokens
 -- what a scope keeps of an environment
 abbrev pub environment_of : List (List ℕ) → Scope → Environment
 environment_of names scope =
-    record { names = names; logic = scope.logic; theories = scope.world.theories; declarations = declarations_of scope.world.scopes; datatypes = datatypes_of scope.world.script; next = scope.next }
+    record { names = names; logic = option_map described scope.logic; theories = scope.world.theories; declarations = declarations_of scope.world.scopes; datatypes = datatypes_of scope.world.script; definitions = plain_defs scope.world.script.defs; next = scope.next }
+
+-- .. once the definitions of a command are kept that comes after an earlier scope
+abbrev pub environment_with : Scope → Scope → PlainCommand → Environment
+environment_with old new c = record (environment_of old.world.names new) { definitions = plain_defs old.world.script.defs ++ defined_in (declared_by c) }
 
 -- no declaration is live
 pub record HasNone (scopes : Scopes) : Type 0 where
@@ -49,7 +57,7 @@ pub record HasNone (scopes : Scopes) : Type 0 where
 -- bring names of its theories.
 pub record IsReadyScope (scope : Scope) : Type 0 where
   pub ready : IsReady scope.world
-  pub undeclared : scope.logic ≡ false → HasNone scope.world.scopes
+  pub undeclared : is_some scope.logic ≡ false → HasNone scope.world.scopes
 
 -- the commands that a checker has accepted
 abbrev pub accepted_by : Checker → List PlainCommand

@@ -1,5 +1,5 @@
 -- The rules as functions: `Ok`, or the first fault. The relation of the rules is above them.
-use Rattle.std.specs.Prelude.{ℕ, ◌+◌, Bool, true, false, not, ◌==◌, ◌&&◌, ◌||◌, nat_le, List, [], ◌∷◌, Option, Some, None, Result, Ok, Err, if◌then◌else◌}
+use Rattle.std.specs.Prelude.{ℕ, ◌+◌, Bool, not, ◌==◌, ◌&&◌, nat_le, List, [], ◌∷◌, Option, Some, None, Result, Ok, Err, if◌then◌else◌}
 use Rattle.std.specs.Option.{is_some}
 use Rattle.lex_core.specs.declared.place.Place.{Place}
 use Rattle.lex_core.specs.declared.token.Tok.{Tok}
@@ -11,12 +11,8 @@ use Rattle.term_grammar.specs.Syntax.{SortedSymbol, Term, Terms, no_terms, with_
 use Rattle.cmd_grammar.specs.Commands.{Command, FunDec, Literal, echo, exit, get_info, get_option, pop, push, reset, set_info, set_logic, set_option}
 use Rattle.cmd_grammar.specs.declared.fun_dec.RawFunDec.{RawFunDec}
 use Rattle.cmd_grammar.specs.DeclarationViews.{fun_dec_seen, variable_seen}
-use Rattle.sig_table.specs.declared.theories.Theories.{Theories}
-use Rattle.term_store.specs.Command.{PlainCommand}
-use Rattle.term_store.specs.Command as typed
-use Rattle.logic_frag.specs.TermSearch.{command_has_part, is_quantifier}
 use Rattle.typer.specs.Declarations.{depth}
-use Rattle.script_core.specs.Environment.{Environment, logic_theories, text_of}
+use Rattle.script_core.specs.Environment.{Environment, logic_in}
 use Rattle.script_core.specs.Rules.{value_of}
 use Rattle.typer.specs.TermRules.{attribute_key}
 
@@ -35,14 +31,14 @@ both (Ok u) next = next
 both (Err place) next = Err place
 
 abbrev pub answer_push : Environment → ℕ → Tok → Answer
-answer_push env at n = both (test env.logic code.LogicNotSet at) (test (nat_le (depth env.declarations + value_of env n) 65535) code.TooManyLevels at)
+answer_push env at n = both (test (is_some env.logic) code.LogicNotSet at) (test (nat_le (depth env.declarations + value_of env n) 65535) code.TooManyLevels at)
 
 abbrev pub answer_pop : Environment → ℕ → Tok → Answer
-answer_pop env at n = both (test env.logic code.LogicNotSet at) (test (nat_le (value_of env n) (depth env.declarations)) code.TooFewLevels at)
+answer_pop env at n = both (test (is_some env.logic) code.LogicNotSet at) (test (nat_le (value_of env n) (depth env.declarations)) code.TooFewLevels at)
 
 abbrev pub answer_mode : Environment → ℕ → Command → Answer
-answer_mode env at (set_logic n) = both (test (not env.logic) code.LogicAlreadySet at) (test (is_some (logic_theories (text_of env n))) code.UnknownLogic at)
-answer_mode env at (set_option a) = test (not (((attribute_key a).name == GLOBAL_DECLARATIONS) && env.logic)) code.GlobalOptionTooLate at
+answer_mode env at (set_logic n) = both (test (not (is_some env.logic)) code.LogicAlreadySet at) (test (is_some (logic_in env n)) code.UnknownLogic at)
+answer_mode env at (set_option a) = test (not (((attribute_key a).name == GLOBAL_DECLARATIONS) && is_some env.logic)) code.GlobalOptionTooLate at
 answer_mode env at (set_info a) = Ok tt
 answer_mode env at (get_option k) = Ok tt
 answer_mode env at (get_info k) = Ok tt
@@ -51,25 +47,7 @@ answer_mode env at reset = Ok tt
 answer_mode env at exit = Ok tt
 answer_mode env at (push n) = answer_push env at n
 answer_mode env at (pop n) = answer_pop env at n
-answer_mode env at command = test env.logic code.LogicNotSet at
-
-abbrev pub is_recursive : PlainCommand → Bool
-is_recursive (typed.define_fun_rec d) = true
-is_recursive (typed.define_funs_rec ds) = true
-is_recursive command = false
-
-abbrev pub declares_datatype : PlainCommand → Bool
-declares_datatype (typed.declare_datatype t) = true
-declares_datatype (typed.declare_datatypes ts) = true
-declares_datatype command = false
-
-abbrev pub is_quantified : PlainCommand → Bool
-is_quantified c = command_has_part is_quantifier c
-
-abbrev pub answer_fragment : Theories → ℕ → PlainCommand → Answer
-answer_fragment theories at c =
-    both (test (not (is_quantified c) || theories.ints) code.QuantifierOutsideLogic at)
-    (both (test (not (declares_datatype c) || theories.ints) code.DatatypeOutsideLogic at) (test (not (is_recursive c) || theories.ints) code.RecursionOutsideLogic at))
+answer_mode env at command = test (is_some env.logic) code.LogicNotSet at
 
 -- the terms that are left
 abbrev pub terms_left : Option (Term × Terms) → Terms

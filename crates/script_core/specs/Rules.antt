@@ -1,9 +1,10 @@
--- The rules of the commands that are built (SMT-LIB 2.6, sections 3.9 and 4.2): for each command the checks in their order,
+-- The rules of the commands (SMT-LIB 2.6, sections 3.9 and 4.2): for each command the checks in their order,
 -- the typed command that is kept, and the environment that it leads to.
-use Rattle.std.specs.Prelude.{◌≡◌, ℕ, ◌+◌, ◌<◌, ◌≤◌, ◌^◌, ◌==◌, Bool, true, false, ◌&&◌, List, [], ◌∷◌, ◌++◌, length, map, Option, Some, None, IsTrue, if◌then◌else◌}
+use Rattle.std.specs.Prelude.{◌≡◌, ℕ, ◌+◌, ◌<◌, ◌≤◌, ◌^◌, ◌==◌, Bool, true, false, ◌&&◌, List, [], ◌∷◌, ◌++◌, length, map, Option, Some, None, if◌then◌else◌}
 use Rattle.std.specs.List.{list_any}
-use Rattle.std.specs.Option.{is_some}
+use Rattle.std.specs.Option.{IsSome, is_some}
 use Rattle.lex_core.specs.declared.token.Tok.{Tok}
+use Rattle.sig_table.specs.declared.code.Code.{Code}
 use Rattle.sig_table.specs.declared.code.Code.TheVariants as code
 use Rattle.sexp_core.specs.Sexp.{Sexp, atom, list}
 use Rattle.judgement.specs.Judging.{Judging, ◌>>=◌, check, declare, done, find, refuse}
@@ -24,11 +25,13 @@ use Rattle.datatype_commands.specs.DeclaredDatatypes.{with_parts, with_sorts}
 use Rattle.datatype_commands.specs.GroupRules.{judge_group, judge_single}
 use Rattle.term_store.specs.Command.{PlainCommand, PlainDatatype, PlainDef}
 use Rattle.term_store.specs.Command as typed
-use Rattle.term_store.specs.Declarations.{Declaration, names_in, names_in_all, of_group}
+use Rattle.term_store.specs.CommandText.{command_depth}
+use Rattle.term_store.specs.Declarations.{Declaration, declared_by, names_in, names_in_all, of_group}
 use Rattle.term_store.specs.Term.{PlainTerm, plain_sort}
-use Rattle.logic_frag.specs.FragmentRules.{DeclaresDatatype, DefinesRecursively, HasTerm, IsQuantifier}
+use Rattle.logic_frag.specs.FragmentRules.{BreaksRule, context_of, fragment_codes}
+use Rattle.logic_frag.specs.Logics.{Description}
 use Rattle.script_core.specs.Keeping.{defined_in}
-use Rattle.script_core.specs.Environment.{Environment, logic_theories, signature_from, signature_in, start, text_of, theories_of}
+use Rattle.script_core.specs.Environment.{Environment, logic_in, signature_from, signature_in, start, text_of, theories_under}
 
 -- the value of a numeral in the text
 abbrev pub value_of : Environment → Tok → ℕ
@@ -38,9 +41,9 @@ value_of env n = numeral_value (text_of env n)
 -- get-option, get-info, echo, reset and exit. At most 65,535 levels are open.
 abbrev pub judge_mode : Environment → ℕ → Command → Judging (Unit {0})
 judge_mode env at (set_logic n) = do
-  _ ← check (env.logic ≡ false) code.LogicAlreadySet at
-  check (IsTrue (is_some (logic_theories (text_of env n)))) code.UnknownLogic at
-judge_mode env at (set_option a) = check ((((attribute_key a).name == GLOBAL_DECLARATIONS) && env.logic) ≡ false) code.GlobalOptionTooLate at
+  _ ← check (is_some env.logic ≡ false) code.LogicAlreadySet at
+  check (IsSome (logic_in env n)) code.UnknownLogic at
+judge_mode env at (set_option a) = check ((((attribute_key a).name == GLOBAL_DECLARATIONS) && is_some env.logic) ≡ false) code.GlobalOptionTooLate at
 judge_mode env at (set_info a) = done tt
 judge_mode env at (get_option k) = done tt
 judge_mode env at (get_info k) = done tt
@@ -48,12 +51,16 @@ judge_mode env at (echo t) = done tt
 judge_mode env at reset = done tt
 judge_mode env at exit = done tt
 judge_mode env at (push n) = do
-  _ ← check (IsTrue env.logic) code.LogicNotSet at
+  _ ← check (IsSome env.logic) code.LogicNotSet at
   check (depth env.declarations + value_of env n ≤ 65535) code.TooManyLevels at
 judge_mode env at (pop n) = do
-  _ ← check (IsTrue env.logic) code.LogicNotSet at
+  _ ← check (IsSome env.logic) code.LogicNotSet at
   check (value_of env n ≤ depth env.declarations) code.TooFewLevels at
-judge_mode env at command = check (IsTrue env.logic) code.LogicNotSet at
+judge_mode env at command = check (IsSome env.logic) code.LogicNotSet at
+
+-- the logic is set, with its theories
+abbrev pub with_logic : Option Description → Environment → Environment
+with_logic l env = record env { logic = l; theories = theories_under l }
 
 -- a constant or a function with these argument sorts and this result, under the next number
 abbrev pub with_function : Environment → ℕ → List tree.Sort → tree.Sort → Environment
@@ -289,34 +296,51 @@ judge_parts env at (define_funs_rec fs ts) = do
 judge_parts env at (get_value ts) = do
   us ← judge_terms (signature_in env) [] ts
   done (typed.get_value us, env)
-judge_parts env at (set_logic n) = done (typed.set_logic n.name, record env { logic = true; theories = theories_of env n })
+judge_parts env at (set_logic n) = done (typed.set_logic n.name, with_logic (logic_in env n) env)
 judge_parts env at (set_option a) = done (typed.set_option (attribute_key a).name (attribute_value a), after_option env a)
 judge_parts env at (push n) = done (typed.push (value_of env n), record env { declarations = with_pushed (value_of env n) env.declarations })
 judge_parts env at (pop n) = done (typed.pop (value_of env n), record env { declarations = with_popped (value_of env n) env.declarations })
-judge_parts env at reset = done (typed.reset, record start { names = env.names; datatypes = env.datatypes; next = env.next })
+judge_parts env at reset = done (typed.reset, record start { names = env.names; datatypes = env.datatypes; definitions = env.definitions; next = env.next })
 judge_parts env at reset_assertions = done (typed.reset_assertions, record env { declarations = without_assertions env.declarations })
 judge_parts env at command = do
   c ← find (λ c. unchanging command ≡ Some c) code.WrongCommandForm at
   done (c, env)
 
--- Whether the logic allows the typed command. Of the logics that are built ALL alone allows quantifiers, datatypes and recursive
--- definitions, and it alone has Ints.
-abbrev pub judge_fragment : Environment → ℕ → PlainCommand → Judging (Unit {0})
-judge_fragment env at c = do
-  _ ← check (HasTerm c (λ o. IsQuantifier o.its) → IsTrue env.theories.ints) code.QuantifierOutsideLogic at
-  _ ← check (DeclaresDatatype c → IsTrue env.theories.ints) code.DatatypeOutsideLogic at
-  check (DefinesRecursively c → IsTrue env.theories.ints) code.RecursionOutsideLogic at
+-- the canonical text of the command nests at most 4,000 deep
+abbrev pub judge_depth : ℕ → PlainCommand → Judging (Unit {0})
+judge_depth at c = check (command_depth c ≤ 4000) code.TextTooDeep at
 
--- the command whose list begins at this byte, before its named terms are live
+-- none of the rules with these codes is broken; the first that is broken is the fault
+abbrev pub judge_codes : (Code → Type 0) → ℕ → List Code → Judging (Unit {0})
+judge_codes Broken at [] = done tt
+judge_codes Broken at (c ∷ cs) = do
+  _ ← check (Broken c → ⊥) c at
+  judge_codes Broken at cs
+
+-- The logic, where one is set, allows the command. The names of its terms have these texts, and these definitions are kept.
+abbrev pub judge_fragment : Option Description → List (List ℕ) → List PlainDef → ℕ → PlainCommand → Judging (Unit {0})
+judge_fragment None texts kept at c = done tt
+judge_fragment (Some l) texts kept at c = judge_codes (BreaksRule l (context_of texts kept c) c) at fragment_codes
+
+-- the typed command as a whole: its text, and then whether the logic allows it
+abbrev pub judge_whole : Option Description → List (List ℕ) → List PlainDef → ℕ → PlainCommand → Judging (Unit {0})
+judge_whole logic texts kept at c = do
+  _ ← judge_depth at c
+  judge_fragment logic texts kept at c
+
+-- the command whose list begins at this byte, before its named terms are live and its definitions are kept
 abbrev pub judge_own : Environment → ℕ → Command → Judging (PlainCommand × Environment)
 judge_own env at command = do
   _ ← judge_mode env at command
   made ← judge_parts env at command
-  _ ← judge_fragment env at made.0
+  _ ← judge_whole env.logic env.names env.definitions at made.0
   done made
 
--- .. and with them: they may be used from the next command on
+-- .. and with them, for the commands after it
+abbrev pub with_defined : Environment → PlainCommand → Environment → Environment
+with_defined old c made = record (with_names_given made (defined_in (named_by c))) { definitions = old.definitions ++ defined_in (declared_by c) }
+
 abbrev pub judge_command : Environment → ℕ → Command → Judging (PlainCommand × Environment)
 judge_command env at command = do
   made ← judge_own env at command
-  done (made.0, with_names_given made.1 (defined_in (named_by made.0)))
+  done (made.0, with_defined env made.0 made.1)

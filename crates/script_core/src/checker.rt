@@ -6,6 +6,7 @@ ghost use Rattle.sexp_core.specs.Sexp.{flat};
 ghost use Rattle.term_store.specs.SoundScript.{IsSound};
 ghost use Rattle.script_core.specs.Interned.{AreInterned};
 ghost use Rattle.datatype_commands.specs.KnownDatatypes.{KnowsDatatypes};
+ghost use Rattle.logic_frag.specs.Following.{AppliesLower, plain_defs};
 ghost use Rattle.script_core.specs.Environment.{signature_in};
 ghost use Rattle.script_core.specs.Keeping.{KeepsBelow, KeepsEarlier};
 ghost use Rattle.script_core.specs.Checking.{Awaits, BreaksTree, BreaksWith, BreaksWithin, HasTaken, IfEnded, IfMore, IfRefused, IsReadyScope, accepted_by, environment_of};
@@ -48,7 +49,7 @@ impl Checker {
             builder: Builder::new(alloc),
             scope: Scope {
                 world,
-                logic: false,
+                logic: None,
                 next: 0,
                 alloc,
             },
@@ -73,6 +74,7 @@ impl Checker {
         requires stands { IsReadyScope self.old.scope }
         requires known { KnowsDatatypes (signature_in (environment_of self.old.scope.world.names self.old.scope)) }
         requires kept { KeepsBelow self.old.scope.next self.old.scope.world.script.defs }
+        requires lower { AppliesLower (plain_defs self.old.scope.world.script.defs) }
         requires few { length (accepted_by self.old) + 1 < 2 ^ 32 - 1 }
         ensures ok { IfOk result (λ progress. TakesTree self.old.scope tree.now progress self.new.scope) }
         ensures refused { IfErr result (λ e. IfRefused e (BreaksTree self.old tree.now)) }

@@ -1,5 +1,6 @@
 //! What the commands that declare datatypes make of the environment (SMT-LIB 2.6, section 4.2.3).
-ghost use Rattle.std.specs.Prelude.{◌≡◌, ◌<◌, IfErr, IfOk, IfSome, IsTrue, OnErr, OnOk, length, map};
+ghost use Rattle.std.specs.Prelude.{◌≡◌, ◌<◌, IfErr, IfOk, IfSome, OnErr, OnOk, length, map};
+ghost use Rattle.std.specs.Option.{IsSome};
 ghost use Rattle.std.specs.List.{All};
 ghost use Rattle.dt_rules.specs.Groups.{IsReadyGroup};
 ghost use Rattle.cmd_grammar.specs.Commands as command;
@@ -57,7 +58,7 @@ fn count_of_group(group: &[Datatype]) -> Option<u32>
 // error is that memory runs out; some of the group may be kept then.
 fn add_group(scope: &mut Scope, group: &[Datatype]) -> Result<(), StepError>
     requires stands { IsReadyScope scope.old }
-    requires logic { IsTrue scope.old.logic }
+    requires logic { IsSome scope.old.logic }
     requires schema { All (HasReadyParts scope.old.world) group.now }
     requires group { IsReadyGroup (datatypes_of scope.old.world.script) (map plain_datatype group.now) }
     requires unused { EachDatatypeUnused scope.old.world.script.defs group.now }
@@ -98,7 +99,7 @@ pub fn declare_datatypes(
 ) -> Result<TypedCommand, StepError>
     requires stands { IsReadyScope scope.old }
     requires begins { BeginsNames scope.old }
-    requires logic { IsTrue scope.old.logic }
+    requires logic { IsSome scope.old.logic }
     requires named { HaveNames scope.old.world.names sorts.now }
     requires known { KnowsDatatypes (signature_in (environment_of scope.old.world.names scope.old)) }
     requires kept { KeepsBelow scope.old.next scope.old.world.script.defs }
@@ -128,7 +129,7 @@ pub fn declare_datatype(
 ) -> Result<TypedCommand, StepError>
     requires stands { IsReadyScope scope.old }
     requires begins { BeginsNames scope.old }
-    requires logic { IsTrue scope.old.logic }
+    requires logic { IsSome scope.old.logic }
     requires named { name.now.name < length scope.old.world.names }
     requires known { KnowsDatatypes (signature_in (environment_of scope.old.world.names scope.old)) }
     requires kept { KeepsBelow scope.old.next scope.old.world.script.defs }

@@ -1,5 +1,6 @@
 //! The commands that define functions (SMT-LIB 2.6, section 4.2.3).
-ghost use Rattle.std.specs.Prelude.{◌≡◌, ◌<◌, ◌++◌, ◌∷◌, [], length, map, IfErr, IfOk, IsTrue, OnOk};
+ghost use Rattle.std.specs.Prelude.{◌≡◌, ◌<◌, ◌++◌, ◌∷◌, [], length, map, IfErr, IfOk, OnOk};
+ghost use Rattle.std.specs.Option.{IsSome};
 ghost use Rattle.std.specs.Prelude.{◌==◌};
 ghost use Rattle.std.specs.List.{All, list_any};
 ghost use Rattle.sort_store.specs.Interned.{Grows};
@@ -132,7 +133,7 @@ fn sorts_of(alloc: Global, vars: &[(NameId, SortRef)]) -> Result<Sorts, StepErro
 // Declares the function of a header. The only error is that memory runs out.
 fn add_header(scope: &mut Scope, header: &FunHeader) -> Result<(), StepError>
     requires stands { IsReadyScope scope.old }
-    requires logic { IsTrue scope.old.logic }
+    requires logic { IsSome scope.old.logic }
     requires named { header.now.name < length scope.old.world.names }
     requires schema { IsReadyHeader scope.old header.now }
     ensures effect { let names = scope.old.world.names in
@@ -233,7 +234,7 @@ fn definition(header: FunHeader, recursive: bool, body: TermRef) -> Def
 pub fn define_fun(scope: &mut Scope, at: u32, raw: RawFunDef) -> Result<TypedCommand, StepError>
     requires stands { IsReadyScope scope.old }
     requires begins { BeginsNames scope.old }
-    requires logic { IsTrue scope.old.logic }
+    requires logic { IsSome scope.old.logic }
     requires named { raw.name.name < length scope.old.world.names }
     ensures answer { let names = scope.old.world.names in
         MeetsParts (environment_of names scope.old) at (command.define_fun (fun_def_seen raw.entry)) result (environment_of names scope.new) (seen_by scope.new) }
@@ -260,7 +261,7 @@ pub fn define_fun(scope: &mut Scope, at: u32, raw: RawFunDef) -> Result<TypedCom
 pub fn define_fun_rec(scope: &mut Scope, at: u32, raw: RawFunDef) -> Result<TypedCommand, StepError>
     requires stands { IsReadyScope scope.old }
     requires begins { BeginsNames scope.old }
-    requires logic { IsTrue scope.old.logic }
+    requires logic { IsSome scope.old.logic }
     requires named { raw.name.name < length scope.old.world.names }
     ensures answer { let names = scope.old.world.names in
         MeetsParts (environment_of names scope.old) at (command.define_fun_rec (fun_def_seen raw.entry)) result (environment_of names scope.new) (seen_by scope.new) }
@@ -286,7 +287,7 @@ pub fn define_fun_rec(scope: &mut Scope, at: u32, raw: RawFunDef) -> Result<Type
 // A function that is declared together with others. It is live from then on.
 fn next_header(scope: &mut Scope, declaration: RawFunDec) -> Result<FunHeader, StepError>
     requires stands { IsReadyScope scope.old }
-    requires logic { IsTrue scope.old.logic }
+    requires logic { IsSome scope.old.logic }
     requires named { declaration.name.name < length scope.old.world.names }
     ensures answer { let env = environment_of scope.old.world.names scope.old in let f = fun_dec_seen declaration.entry in
         Answers (judge_header env f.name f.params f.result) plain_header result }
@@ -315,7 +316,7 @@ fn next_header(scope: &mut Scope, declaration: RawFunDec) -> Result<FunHeader, S
 // The functions that are declared together. All are live from then on.
 fn headers_of(scope: &mut Scope, declarations: &RawFunDecs) -> Result<ListOf<FunHeader>, StepError>
     requires stands { IsReadyScope scope.old }
-    requires logic { IsTrue scope.old.logic }
+    requires logic { IsSome scope.old.logic }
     requires named { AreNamed scope.old.world.names declarations.now }
     ensures answer { Answers (judge_headers (environment_of scope.old.world.names scope.old) declarations.now) (λ hs. map plain_header hs) result }
     ensures effect { let names = scope.old.world.names in
@@ -413,7 +414,7 @@ pub fn define_funs_rec(
 ) -> Result<TypedCommand, StepError>
     requires stands { IsReadyScope scope.old }
     requires begins { BeginsNames scope.old }
-    requires logic { IsTrue scope.old.logic }
+    requires logic { IsSome scope.old.logic }
     requires named { AreNamed scope.old.world.names declarations.now }
     ensures answer { let names = scope.old.world.names in
         MeetsParts (environment_of names scope.old) at (command.define_funs_rec declarations.now bodies.now) result (environment_of names scope.new) (seen_by scope.new) }

@@ -1,6 +1,7 @@
 //! What the commands that change something make of the environment, once their mode is judged (SMT-LIB 2.6,
 //! sections 4.1 and 4.2).
-ghost use Rattle.std.specs.Prelude.{◌≡◌, ◌↔◌, ◌==◌, ◌<◌, [], true, false, length, map, IfErr, IfOk, IsTrue, OnOk};
+ghost use Rattle.std.specs.Prelude.{◌≡◌, ◌↔◌, ◌==◌, ◌<◌, [], false, length, map, IfErr, IfOk, IsTrue, OnOk};
+ghost use Rattle.std.specs.Option.{IsSome, is_some};
 ghost use Rattle.std.specs.List.{All, list_any};
 ghost use Rattle.sort_store.specs.CoreRanks.{bool};
 ghost use Rattle.sort_store.specs.Tree.{tree};
@@ -12,17 +13,19 @@ ghost use Rattle.typer.specs.Declarations.{without_assertions};
 ghost use Rattle.sort_store.specs.Interned.{Grows};
 ghost use Rattle.term_store.specs.Term.{plain_sort, plain_var, tree as term_tree};
 ghost use Rattle.typer.specs.Typed.{AreBound};
-ghost use Rattle.script_core.specs.Environment.{start, theories_of};
-ghost use Rattle.script_core.specs.Rules.{after_option, judge_bool, judge_params, is_true as is_true_value, with_defined_sort, with_free_sort, with_function};
+ghost use Rattle.logic_frag.specs.Following.{plain_defs};
+ghost use Rattle.script_core.specs.Environment.{logic_in, start};
+ghost use Rattle.script_core.specs.Rules.{after_option, judge_bool, judge_params, is_true as is_true_value, with_defined_sort, with_free_sort, with_function, with_logic};
 ghost use Rattle.script_core.specs.Effects.{Answers, AnswersParts, AnswersSort, AnswersSorts, BeginsNames, CountsNames, DeclaresNoName, IsSameTo, Meets, MeetsParts, MeetsTerm, OnlySortsGrow, first_of, seen_by, step_error_of};
 ghost use Rattle.script_core.specs.Checking.{IsReadyScope, environment_of};
 
-use crate::logic::{core_alone, logic_theories};
+use crate::logic::{core_alone, theories_under};
 use crate::rules::{attribute_key, text_of, value_of};
 use crate::scope::{Scope, StepError};
 use crate::unchanging::attribute_value;
 use cmd_grammar::RawLiterals;
 use lex_core::{NameId, Place, Tok};
+use logic_frag::logic_of;
 use scope_stack::{FunEntry, FunKind, SortEntry};
 use sig_table::Code;
 use sort_store::{DeclNo, SortRef, Sorts};
@@ -243,7 +246,7 @@ pub fn add_function(
     sort: SortRef,
 ) -> Result<DeclNo, StepError>
     requires stands { IsReadyScope scope.old }
-    requires logic { IsTrue scope.old.logic }
+    requires logic { IsSome scope.old.logic }
     requires named { name < length scope.old.world.names }
     requires args { All (IsReadySchema scope.old.world.names scope.old.world.sorts 0) args }
     requires sort { IsReadySchema scope.old.world.names scope.old.world.sorts 0 sort }
@@ -285,7 +288,7 @@ pub fn declare_const(
     sort: RawSort,
 ) -> Result<TypedCommand, StepError>
     requires stands { IsReadyScope scope.old }
-    requires logic { IsTrue scope.old.logic }
+    requires logic { IsSome scope.old.logic }
     requires named { name.now.name < length scope.old.world.names }
     ensures answer { let names = scope.old.world.names in
         AnswersParts (environment_of names scope.old) at (command.declare_const name.now sort.entry) result (environment_of names scope.new) }
@@ -316,7 +319,7 @@ pub fn declare_fun(
     sort: RawSort,
 ) -> Result<TypedCommand, StepError>
     requires stands { IsReadyScope scope.old }
-    requires logic { IsTrue scope.old.logic }
+    requires logic { IsSome scope.old.logic }
     requires named { name.now.name < length scope.old.world.names }
     ensures answer { let names = scope.old.world.names in
         AnswersParts (environment_of names scope.old) at (command.declare_fun name.now args.entry sort.entry) result (environment_of names scope.new) }
@@ -344,7 +347,7 @@ pub fn declare_fun(
 // Declares a sort symbol of a free sort under the next number, as `add_function`.
 fn add_free_sort(scope: &mut Scope, name: NameId, arity: u32) -> Result<DeclNo, StepError>
     requires stands { IsReadyScope scope.old }
-    requires logic { IsTrue scope.old.logic }
+    requires logic { IsSome scope.old.logic }
     requires named { name < length scope.old.world.names }
     requires free { is_theory_sort scope.old.world.names scope.old.world.theories name ≡ false }
     ensures effect { let names = scope.old.world.names in
@@ -381,7 +384,7 @@ pub fn declare_sort(
     arity: &Tok,
 ) -> Result<TypedCommand, StepError>
     requires stands { IsReadyScope scope.old }
-    requires logic { IsTrue scope.old.logic }
+    requires logic { IsSome scope.old.logic }
     requires named { name.now.name < length scope.old.world.names }
     ensures answer { let names = scope.old.world.names in
         AnswersParts (environment_of names scope.old) at (command.declare_sort name.now arity.now) result (environment_of names scope.new) }
@@ -439,7 +442,7 @@ fn add_defined_sort(
     sort: SortRef,
 ) -> Result<(), StepError>
     requires stands { IsReadyScope scope.old }
-    requires logic { IsTrue scope.old.logic }
+    requires logic { IsSome scope.old.logic }
     requires named { name < length scope.old.world.names }
     requires free { is_theory_sort scope.old.world.names scope.old.world.theories name ≡ false }
     requires sort { IsReadySchema scope.old.world.names scope.old.world.sorts params sort }
@@ -467,7 +470,7 @@ pub fn define_sort(
     sort: RawSort,
 ) -> Result<TypedCommand, StepError>
     requires stands { IsReadyScope scope.old }
-    requires logic { IsTrue scope.old.logic }
+    requires logic { IsSome scope.old.logic }
     requires named { name.now.name < length scope.old.world.names }
     ensures answer { let names = scope.old.world.names in
         AnswersParts (environment_of names scope.old) at (command.define_sort name.now params.now sort.entry) result (environment_of names scope.new) }
@@ -503,20 +506,20 @@ fn is_true(value: &RawValue) -> bool
     }
 }
 
-/// Sets the logic, and with it the theories whose symbols are known. Core alone is known where no logic has the name.
+/// Sets the logic of this name, and with it the theories whose symbols are known. None is set where no logic has the name.
 pub fn set_logic(scope: &mut Scope, name: &Tok)
     requires stands { IsReadyScope scope.old }
-    requires logic { scope.old.logic ≡ false }
+    requires logic { is_some scope.old.logic ≡ false }
     ensures effect { let env = environment_of scope.old.world.names in
-        env scope.new ≡ record (env scope.old) { logic = true; theories = theories_of (env scope.old) name.now } }
+        env scope.new ≡ with_logic (logic_in (env scope.old) name.now) (env scope.old) }
     ensures names { scope.new.world.names ≡ scope.old.world.names }
     ensures script { scope.new.world.script ≡ scope.old.world.script }
     ensures unnamed { DeclaresNoName scope.old scope.new }
     ensures stands { IsReadyScope scope.new }
 {
-    let theories = logic_theories(text_of(&scope.world.names, name.name));
-    scope.world.theories = theories.unwrap_or(core_alone());
-    scope.logic = true;
+    let logic = logic_of(text_of(&scope.world.names, name.name));
+    scope.world.theories = theories_under(&logic);
+    scope.logic = logic;
 }
 
 // Sets what the option says of declarations, where it speaks of them.
@@ -559,7 +562,7 @@ pub fn set_option(
 /// Opens levels.
 pub fn push(scope: &mut Scope, at: u32, count: &Tok) -> Result<TypedCommand, StepError>
     requires stands { IsReadyScope scope.old }
-    requires logic { IsTrue scope.old.logic }
+    requires logic { IsSome scope.old.logic }
     ensures answer { let names = scope.old.world.names in
         AnswersParts (environment_of names scope.old) at (command.push count.now) result (environment_of names scope.new) }
     ensures names { scope.new.world.names ≡ scope.old.world.names }
@@ -579,7 +582,7 @@ pub fn push(scope: &mut Scope, at: u32, count: &Tok) -> Result<TypedCommand, Ste
 /// Closes levels.
 pub fn pop(scope: &mut Scope, at: u32, count: &Tok) -> Result<TypedCommand, StepError>
     requires stands { IsReadyScope scope.old }
-    requires logic { IsTrue scope.old.logic }
+    requires logic { IsSome scope.old.logic }
     ensures answer { let names = scope.old.world.names in
         AnswersParts (environment_of names scope.old) at (command.pop count.now) result (environment_of names scope.new) }
     ensures names { scope.new.world.names ≡ scope.old.world.names }
@@ -596,11 +599,11 @@ pub fn pop(scope: &mut Scope, at: u32, count: &Tok) -> Result<TypedCommand, Step
     }
 }
 
-/// Forgets all but the names, the sorts and terms made so far, the datatypes by number, and the next number.
+/// Forgets all but the names, the sorts and terms made so far, the datatypes and definitions by number, and the next number.
 pub fn reset(scope: &mut Scope)
     requires stands { IsReadyScope scope.old }
     ensures effect { let names = scope.old.world.names in
-        environment_of names scope.new ≡ record start { names = names; datatypes = datatypes_of scope.old.world.script; next = scope.old.next } }
+        environment_of names scope.new ≡ record start { names = names; datatypes = datatypes_of scope.old.world.script; definitions = plain_defs scope.old.world.script.defs; next = scope.old.next } }
     ensures names { scope.new.world.names ≡ scope.old.world.names }
     ensures script { scope.new.world.script ≡ scope.old.world.script }
     ensures unnamed { DeclaresNoName scope.old scope.new }
@@ -608,13 +611,13 @@ pub fn reset(scope: &mut Scope)
 {
     scope.world.scopes.reset();
     scope.world.theories = core_alone();
-    scope.logic = false;
+    scope.logic = None;
 }
 
 /// Forgets what is not global.
 pub fn reset_assertions(scope: &mut Scope)
     requires stands { IsReadyScope scope.old }
-    requires logic { IsTrue scope.old.logic }
+    requires logic { IsSome scope.old.logic }
     ensures effect { let env = environment_of scope.old.world.names in
         env scope.new ≡ record (env scope.old) { declarations = without_assertions (env scope.old).declarations } }
     ensures names { scope.new.world.names ≡ scope.old.world.names }

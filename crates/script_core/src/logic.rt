@@ -1,7 +1,9 @@
-//! The logics that are built (SMT-LIB 2.6, section 3.8), by their theories.
-ghost use Rattle.std.specs.Prelude.{◌≡◌};
+//! The theories of a logic (SMT-LIB 2.6, section 3.8).
+ghost use Rattle.std.specs.Prelude.{◌≡◌, option_map};
+ghost use Rattle.logic_frag.specs.Logics.{described};
 ghost use Rattle.script_core.specs.Environment as spec;
 
+use logic_frag::{ArrayPart, Logic, NumPart};
 use sig_table::Theories;
 
 /// Core alone, as where no logic is set.
@@ -15,26 +17,16 @@ pub fn core_alone() -> Theories
     }
 }
 
-// Every theory that is built.
-fn every_theory() -> Theories
-    ensures { result ≡ spec.every_theory }
+/// The theories of the logic that is set, and Core alone where none is.
+pub fn theories_under(logic: &Option<Logic>) -> Theories
+    ensures { result ≡ spec.theories_under (option_map described logic.now) }
 {
-    Theories {
-        ints: true,
-        arrays: true,
-        bits: true,
-    }
-}
-
-/// The theories of a logic, by its name. It answers `None` exactly where no logic that is built has the name.
-pub fn logic_theories(name: &[u8]) -> Option<Theories>
-    ensures { result ≡ spec.logic_theories name.now }
-{
-    if name == b"QF_UF".as_slice() {
-        Some(core_alone())
-    } else if name == b"ALL".as_slice() {
-        Some(every_theory())
-    } else {
-        None
+    match logic {
+        Some(logic) => Theories {
+            ints: !matches!(logic.ints, NumPart::Absent),
+            arrays: !matches!(logic.arrays, ArrayPart::Absent),
+            bits: logic.bits,
+        },
+        None => core_alone(),
     }
 }

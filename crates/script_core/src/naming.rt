@@ -1,5 +1,6 @@
 //! The named terms of a command (SMT-LIB 2.6, section 3.6), as definitions without parameters.
-ghost use Rattle.std.specs.Prelude.{◌≡◌, ◌<◌, ◌++◌, ◌∷◌, [], IfErr, IfOk, IsTrue, OnOk, length, map};
+ghost use Rattle.std.specs.Prelude.{◌≡◌, ◌<◌, ◌++◌, ◌∷◌, [], IfErr, IfOk, OnOk, length, map};
+ghost use Rattle.std.specs.Option.{IsSome};
 ghost use Rattle.term_store.specs.Command.{plain_command, plain_def};
 ghost use Rattle.term_store.specs.Declarations.{names_in, names_in_all, names_in_cases, names_in_each, names_in_note, names_in_notes};
 ghost use Rattle.term_store.specs.NumberedNodes.{cases, numbered_note, numbered_notes, terms};
@@ -181,7 +182,7 @@ pub fn named_terms(alloc: Global, command: &TypedCommand) -> Result<Vec<Def>, St
 // Declares a named term. The only error is that memory runs out.
 fn declare_named(scope: &mut Scope, def: &Def) -> Result<(), StepError>
     requires stands { IsReadyScope scope.old }
-    requires logic { IsTrue scope.old.logic }
+    requires logic { IsSome scope.old.logic }
     ensures effect { let names = scope.old.world.names in
         OnOk result (environment_of names scope.new ≡ with_name (environment_of names scope.old) (plain_def def.now)) }
     ensures error { IfErr result (λ e. e ≡ StepError.NoMemory) }
@@ -217,7 +218,7 @@ fn declare_named(scope: &mut Scope, def: &Def) -> Result<(), StepError>
 /// Declares the named terms of a command. The only error is that memory runs out.
 pub fn declare_named_terms(scope: &mut Scope, named: &[Def]) -> Result<(), StepError>
     requires stands { IsReadyScope scope.old }
-    requires logic { 0 < length named.now → IsTrue scope.old.logic }
+    requires logic { 0 < length named.now → IsSome scope.old.logic }
     ensures effect { let names = scope.old.world.names in
         OnOk result (environment_of names scope.new ≡ with_names_given (environment_of names scope.old) (map plain_def named.now)) }
     ensures error { IfErr result (λ e. e ≡ StepError.NoMemory) }

@@ -1,5 +1,6 @@
 //! What a command makes of the environment, once its mode is judged (SMT-LIB 2.6, section 4.2).
 ghost use Rattle.std.specs.Prelude.{◌≡◌, IfOk, OnErr, false};
+ghost use Rattle.std.specs.Option.{is_some};
 ghost use Rattle.cmd_grammar.specs.CommandViews.{command_from};
 ghost use Rattle.script_core.specs.Effects.{BeginsNames, IsDeclaredNamed, IsInMode, MeetsParts, seen_by};
 ghost use Rattle.script_core.specs.Checking.{IsReadyScope, environment_of};
@@ -29,7 +30,7 @@ fn take_plain(
     requires stands { IsReadyScope scope.old }
     requires begins { BeginsNames scope.old }
     requires named { IsDeclaredNamed scope.old.world.names (command_from command) }
-    requires mode { IsInMode scope.old.logic (command_from command) }
+    requires mode { IsInMode (is_some scope.old.logic) (command_from command) }
     ensures answer { let names = scope.old.world.names in
         MeetsParts (environment_of names scope.old) at (command_from command.entry) result (environment_of names scope.new) (seen_by scope.new) }
     ensures names { scope.new.world.names ≡ scope.old.world.names }
@@ -84,7 +85,7 @@ pub fn take_parts(
     requires stands { IsReadyScope scope.old }
     requires begins { BeginsNames scope.old }
     requires named { IsDeclaredNamed scope.old.world.names (command_from command) }
-    requires mode { IsInMode scope.old.logic (command_from command) }
+    requires mode { IsInMode (is_some scope.old.logic) (command_from command) }
     requires known { KnowsDatatypes (signature_in (environment_of scope.old.world.names scope.old)) }
     requires kept { KeepsBelow scope.old.next scope.old.world.script.defs }
     ensures answer { let names = scope.old.world.names in

@@ -3,18 +3,15 @@ ghost use Rattle.std.specs.Prelude.{◌≡◌, ◌↔◌, ◌≤◌, ◌^◌, []
 ghost use Rattle.cmd_grammar.specs.CommandViews.{command_from};
 ghost use Rattle.typer.specs.Numerals.{numeral_value as value_of_text};
 ghost use Rattle.typer.specs.TermRules.{attribute_key as key_of_attribute};
-ghost use Rattle.script_core.specs.RuleAnswers.{answer_fragment, answer_mode, answer_pop, answer_push, declares_datatype as declares_datatype_command, is_quantified as is_quantified_command, is_recursive as is_recursive_command, test};
-ghost use Rattle.term_store.specs.Command.{plain_command};
+ghost use Rattle.script_core.specs.RuleAnswers.{answer_mode, answer_pop, answer_push, test};
 ghost use Rattle.script_core.specs.Checking.{environment_of};
 
-use crate::logic::logic_theories;
 use crate::scope::Scope;
 use cmd_grammar::RawCommandKind;
 use lex_core::{NameId, Names, Place, Tok};
-use logic_frag::has_quantifier;
-use sig_table::{Code, Theories};
+use logic_frag::logic_of;
+use sig_table::Code;
 use term_grammar::{GLOBAL_DECLARATIONS, RawAttribute, RawAttributeKind};
-use term_store::TypedCommand;
 use typer::numeral_value;
 
 /// The text of a name, and no bytes where the table does not have it.
@@ -57,7 +54,7 @@ pub fn attribute_key(attribute: &RawAttribute) -> Tok
 fn judge_push(scope: &Scope, at: u32, count: &Tok) -> Result<(), Place>
     ensures { result ≡ answer_push (environment_of scope.now.world.names scope.now) at count.now }
 {
-    rule(scope.logic, Code::LogicNotSet, at)?;
+    rule(scope.logic.is_some(), Code::LogicNotSet, at)?;
     let few = match value_of(&scope.world.names, count) {
         Some(n) => u64::from(n) + u64::from(scope.world.scopes.levels()) <= 65_535,
         None => false,
@@ -69,7 +66,7 @@ fn judge_push(scope: &Scope, at: u32, count: &Tok) -> Result<(), Place>
 fn judge_pop(scope: &Scope, at: u32, count: &Tok) -> Result<(), Place>
     ensures { result ≡ answer_pop (environment_of scope.now.world.names scope.now) at count.now }
 {
-    rule(scope.logic, Code::LogicNotSet, at)?;
+    rule(scope.logic.is_some(), Code::LogicNotSet, at)?;
     let levels = scope.world.scopes.levels();
     let enough = match value_of(&scope.world.names, count) {
         Some(n) => n <= levels,
@@ -84,13 +81,17 @@ pub fn judge_mode(scope: &Scope, at: u32, command: &RawCommandKind) -> Result<()
 {
     match command {
         RawCommandKind::SetLogic(name) => {
-            rule(!scope.logic, Code::LogicAlreadySet, at)?;
-            let theories = logic_theories(text_of(&scope.world.names, name.name));
-            rule(theories.is_some(), Code::UnknownLogic, at)
+            rule(scope.logic.is_none(), Code::LogicAlreadySet, at)?;
+            let logic = logic_of(text_of(&scope.world.names, name.name));
+            rule(logic.is_some(), Code::UnknownLogic, at)
         }
         RawCommandKind::SetOption(attribute) => {
             let global = attribute_key(attribute).name.number() == GLOBAL_DECLARATIONS;
-            rule(!(global && scope.logic), Code::GlobalOptionTooLate, at)
+            rule(
+                !(global && scope.logic.is_some()),
+                Code::GlobalOptionTooLate,
+                at,
+            )
         }
         RawCommandKind::SetInfo(_)
         | RawCommandKind::GetOption(_)
@@ -100,44 +101,6 @@ pub fn judge_mode(scope: &Scope, at: u32, command: &RawCommandKind) -> Result<()
         | RawCommandKind::Exit => Ok(()),
         RawCommandKind::Push(count) => judge_push(scope, at, count),
         RawCommandKind::Pop(count) => judge_pop(scope, at, count),
-        _ => rule(scope.logic, Code::LogicNotSet, at),
+        _ => rule(scope.logic.is_some(), Code::LogicNotSet, at),
     }
-}
-
-fn is_quantified(command: &TypedCommand) -> bool
-    ensures { result ≡ is_quantified_command (plain_command command.now) }
-{
-    has_quantifier(command)
-}
-
-// Whether the command declares datatypes.
-fn declares_datatype(command: &TypedCommand) -> bool
-    ensures { result ≡ declares_datatype_command (plain_command command.now) }
-{
-    matches!(
-        command,
-        TypedCommand::DeclareDatatype { .. } | TypedCommand::DeclareDatatypes { .. }
-    )
-}
-
-// Whether the command defines functions recursively.
-fn is_recursive(command: &TypedCommand) -> bool
-    ensures { result ≡ is_recursive_command (plain_command command.now) }
-{
-    matches!(
-        command,
-        TypedCommand::DefineFunRec { .. } | TypedCommand::DefineFunsRec { .. }
-    )
-}
-
-/// Judges whether the logic, by its theories, allows the command, whose list begins at this byte.
-pub fn judge_fragment(theories: Theories, at: u32, command: &TypedCommand) -> Result<(), Place>
-    ensures { result ≡ answer_fragment theories at (plain_command command.now) }
-{
-    let quantified = !is_quantified(command) || theories.ints;
-    rule(quantified, Code::QuantifierOutsideLogic, at)?;
-    let declaring = !declares_datatype(command) || theories.ints;
-    rule(declaring, Code::DatatypeOutsideLogic, at)?;
-    let recursive = !is_recursive(command) || theories.ints;
-    rule(recursive, Code::RecursionOutsideLogic, at)
 }

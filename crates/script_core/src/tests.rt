@@ -3,11 +3,14 @@ ghost use Rattle.std.specs.Prelude.{◌≡◌, false};
 mod bits;
 mod datatypes;
 mod definitions;
+mod fragments;
 mod large;
+mod logics;
 mod naming;
 
 use super::*;
 use crate::rules::text_of;
+use io_core::{MemSink, put_all};
 use sig_table::Code;
 use std::alloc::{AllocError, Global};
 use std::process::Abort;
@@ -22,14 +25,14 @@ fn answer(
     first: usize,
 ) -> Result<(Result<(), Stop>, u32), Fail> {
     assert!(rt; first <= text.len());
-    assert!(rt; text.len() < 1_000_000);
+    assert!(rt; text.len() < 10_000_000);
     let (front, back) = text.split_at(first);
     let mut session = Session::new(alloc)?;
     assert!(rt; session.taken() == 0);
     if let Err(stop) = session.feed(front) {
         return Ok((Err(stop), session.script().len() as u32));
     }
-    assert!(rt; session.taken() < 1_000_000);
+    assert!(rt; session.taken() < 10_000_000);
     if let Err(stop) = session.feed(back) {
         return Ok((Err(stop), session.script().len() as u32));
     }
@@ -59,6 +62,39 @@ fn try_refused(
         (refused(command, at, rule), command - 1)
     );
     Ok(())
+}
+
+// The text of these commands and then those.
+fn joined(alloc: Global, front: &[u8], back: &[u8]) -> Result<MemSink, Fail> {
+    let mut text = MemSink::new(alloc, 1_000, Vec::new(alloc))?;
+    put_all(&mut text, front)?;
+    put_all(&mut text, back)?;
+    Ok(text)
+}
+
+fn try_accepted_after(
+    rt: &impl Abort,
+    alloc: Global,
+    front: &[u8],
+    back: &[u8],
+    count: u32,
+) -> Result<(), Fail> {
+    let text = joined(alloc, front, back)?;
+    assert_eq!(rt; answer(rt, alloc, text.bytes(), 0)?, (Ok(()), count));
+    Ok(())
+}
+
+fn try_refused_after(
+    rt: &impl Abort,
+    alloc: Global,
+    front: &[u8],
+    back: &[u8],
+    command: u32,
+    at: u32,
+    rule: Code,
+) -> Result<(), Fail> {
+    let text = joined(alloc, front, back)?;
+    try_refused(rt, alloc, text.bytes(), command, at, rule)
 }
 
 #[test]

@@ -1,8 +1,12 @@
 //! Commands that declare datatypes, and `match` and testers in scripts.
-use super::{answer, try_refused};
+use super::{answer, try_accepted_after, try_refused, try_refused_after};
 use io_core::{Failed, MemSink, put_all, put_number};
 use sig_table::Code;
 use std::test::Fail;
+
+// Lists of a sort, and one of integers.
+const LIST: &[u8] =
+    b"(set-logic ALL)(declare-datatypes ((List 1)) ((par (X) ((nil) (cons (head X) (tail (List X)))))))(declare-const l (List Int))";
 
 #[test]
 fn refuses_terms_on_datatypes_at_their_bytes(rt: HostRuntime) -> Result<(), Fail> {
@@ -267,6 +271,107 @@ fn accepts_datatypes(rt: HostRuntime) -> Result<(), Fail> {
     ];
     for (text, commands) in rows {
         assert_eq!(rt; answer(&rt, rt.alloc(), text, 7)?, (Ok(()), commands));
+    }
+    Ok(())
+}
+
+const NAMED_ACCEPTED: [(&[u8], u32); 7] = [
+    (
+        b"(get-value (l (head l) (tail l) (as nil (List Int)) ((_ is nil) l)))",
+        4,
+    ),
+    (
+        b"(get-value ((match l ((nil 0) ((cons h t) (+ h 1)))) (cons 1 (cons 2 l))))",
+        4,
+    ),
+    (
+        b"(assert (= (! (cons 1 l) :named k) l))\
+            (get-value ((head k) (tail k) ((_ is cons) k)))",
+        5,
+    ),
+    (
+        b"(get-value ((! (as nil (List Int)) :named e)))(assert (= e l))\
+            (assert (match e ((nil true) (x (= x e)))))",
+        6,
+    ),
+    (b"(assert (! ((_ is nil) l) :named n))(assert (not n))", 5),
+    (
+        b"(assert (= l (! (match l ((nil l) ((cons h t) t))) :named rest)))\
+            (get-value (rest (tail rest)))",
+        5,
+    ),
+    (
+        b"(declare-datatype U ((u (v (List Int)))))(get-value ((! (u l) :named w)))\
+            (assert (= (v w) l))",
+        6,
+    ),
+];
+
+#[test]
+fn accepts_values_and_names_of_datatypes(rt: HostRuntime) -> Result<(), Fail> {
+    for (row, count) in NAMED_ACCEPTED {
+        try_accepted_after(&rt, rt.alloc(), LIST, row, count)?;
+    }
+    Ok(())
+}
+
+const NAMED_REFUSED: [(&[u8], u32, u32, Code); 10] = [
+    (b"(get-value (l nil))", 4, 139, Code::AmbiguousConstructor),
+    (
+        b"(get-value ((match l ((nil 0)))))",
+        4,
+        137,
+        Code::UncoveredConstructor,
+    ),
+    (b"(get-value ((head 1)))", 4, 137, Code::NoRank),
+    (
+        b"(get-value ((! (cons 1 l) :named head)))",
+        4,
+        158,
+        Code::WrongNamedTerm,
+    ),
+    (
+        b"(assert (match l ((nil true) ((cons h t) (= (! h :named k) 1)))))",
+        4,
+        181,
+        Code::WrongNamedTerm,
+    ),
+    (
+        b"(assert (= (! l :named k) l))(assert (match l (((k h t) true) (x false))))",
+        5,
+        173,
+        Code::UnknownConstructor,
+    ),
+    (
+        b"(assert (= (! l :named k) l))(assert ((_ is k) l))",
+        5,
+        162,
+        Code::WrongIndex,
+    ),
+    (
+        b"(assert (! ((_ is nil) l) :named n))(declare-datatype U ((n)))",
+        5,
+        183,
+        Code::DatatypeNameInUse,
+    ),
+    (
+        b"(declare-datatype U ((u)))(get-value ((! u :named u)))",
+        5,
+        175,
+        Code::WrongNamedTerm,
+    ),
+    (
+        b"(push 1)(get-value ((! (tail l) :named k)))(pop 1)(get-value (k))",
+        7,
+        187,
+        Code::UnknownFunction,
+    ),
+];
+
+#[test]
+fn refuses_values_and_names_of_datatypes(rt: HostRuntime) -> Result<(), Fail> {
+    for (row, command, at, rule) in NAMED_REFUSED {
+        try_refused_after(&rt, rt.alloc(), LIST, row, command, at, rule)?;
     }
     Ok(())
 }

@@ -1,4 +1,5 @@
-use Rattle.std.proofs.Common.{◌≡◌, [], IsTrue, length, map}
+use Rattle.std.proofs.Common.{◌≡◌, [], length, map}
+use Rattle.std.specs.Option.{IsSome}
 use Rattle.std.specs.List.{All}
 use Rattle.script_core.specs.Checking.{IsReadyScope, environment_of}
 use Rattle.script_core.specs.Effects.{AreNamed, DeclaresNoName, IsReadyHeader, plain_header}
@@ -14,7 +15,7 @@ invariant-loop-next l = let start = environment_of l.fn.scope.world.names l.fn.s
   reached : environment_of l.fn.scope.world.names l.scope ≡ with_headers start (map plain_header l.headers);
   ready : All (IsReadyHeader l.scope) l.headers;
   named : AreNamed l.fn.scope.world.names (fun_decs_left l.next);
-  logic : IsTrue l.scope.logic;
+  logic : IsSome l.scope.logic;
   names : l.scope.world.names ≡ l.fn.scope.world.names;
   unnamed : DeclaresNoName l.fn.scope l.scope;
   script : l.scope.world.script ≡ l.fn.scope.world.script;

@@ -13,7 +13,7 @@ returns-in-Err-clause-answer c =
 
 pub declare_named_terms-requires-clause-logic : goal.declare_named_terms-requires-clause-logic
 declare_named_terms-requires-clause-logic c = let old = c.args.scope.now in
-    λ some. names_logic (environment_of old.world.names old) (environment_of old.world.names c.own_of.new.scope) c.args.tree.now c.in-Ok.command (seen_by c.own_of.new.scope) c.deref.result.now c.in-Ok.ensures.answer
+    λ some. names_logic (environment_of old.world.names old) old.world.names c.own_of.new.scope c.args.tree.now c.in-Ok.command (seen_by c.own_of.new.scope) c.deref.result.now c.in-Ok.ensures.answer
     (ap (map plain_def) c.deref.ensures.value ∙ c.in_ok-named.ensures.ok) some
 
 pub returns-clause-answer : goal.returns-clause-answer

@@ -1,5 +1,6 @@
 use Rattle.std.proofs.Common.{arith}
 use Rattle.script_core.proofs.SoundCheckers.{follows_below, known_under, list_sound}
+use Rattle.script_core.proofs.SoundDefinitions.{script_lower}
 use Rattle.script_core.proofs.TakingTokens.{broken_token, ended_list, refused_list, taken_inside, taken_list, tree_interned}
 use Rattle.script_core.proofs.checker.Checker.take_token.Goals as goal
 
@@ -15,6 +16,9 @@ take_list-requires-clause-known c = let w = c.requires.awaits.1 in known_under w
 
 pub take_list-requires-clause-kept : goal.take_list-requires-clause-kept
 take_list-requires-clause-kept c = let w = c.requires.awaits.1 in follows_below w.known c.requires.awaits.0 c.args.self.now w.follows
+
+pub take_list-requires-clause-lower : goal.take_list-requires-clause-lower
+take_list-requires-clause-lower c = script_lower c.args.self.now.scope.world.script c.requires.awaits.1.follows.keeps c.requires.sound
 
 pub returns-in-Ok-None-clause-more : goal.returns-in-Ok-None-clause-more
 returns-in-Ok-None-clause-more c = λ tokens awaits. let none = c.in-Ok-None in
