@@ -1,6 +1,7 @@
 #!/usr/bin/env bash
 # Measures `dolmen check` on terms: 1,000,000 applications of 10,000 declared functions over QF_UF, and sums over Ints with as
-# many numerals and applications. Where cvc5 or z3 is at hand, its parsing of the same script is measured beside it.
+# many numerals and applications. Where cvc5, z3 or psmt2-frontend is installed, the line says how many times as long it takes on
+# the same script.
 set -euo pipefail
 cd "$(dirname "$0")/.."
 . bench/measure.sh
@@ -8,11 +9,12 @@ program=${1:-crates/dolmen/out/dolmen}
 start "$program" '(cd crates/dolmen && rt run -- check < ../../examples/first.smt2)'
 
 measure_all() {
-  measure "check of $1" "$script" "$program" check
-  if command -v cvc5 >/dev/null; then measure "cvc5 --parse-only of $1" "$script" cvc5 --lang smt2 --parse-only; fi
-  if command -v z3 >/dev/null; then measure "z3 of $1" "$script" z3 -in; fi
+  measure_part "check of $1" "$script" "$program" check
+  compare
+  echo
 }
 
+find_others
 awk 'BEGIN {
   print "(set-logic QF_UF)\n(declare-sort Item 0)\n(declare-const start Item)"
   for (i = 0; i < 10000; i++) print "(declare-fun function_" i " (Item) Item)"
