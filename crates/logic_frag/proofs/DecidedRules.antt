@@ -19,10 +19,10 @@ use Rattle.logic_frag.specs.Logics.{Description}
 use Rattle.logic_frag.specs.Occurrences.{Occurrence, occurrences_in}
 use Rattle.logic_frag.specs.SortSearch.{command_has_array}
 use Rattle.logic_frag.specs.StandsFor.{Context}
-use Rattle.logic_frag.specs.TermSearch.{command_has_part, is_quantifier}
+use Rattle.logic_frag.specs.Quantifiers.{is_quantifier}
 use Rattle.logic_frag.proofs.DifferenceMeanings.{outside}
 use Rattle.logic_frag.proofs.FirstBroken.{some_first}
-use Rattle.logic_frag.proofs.FoundParts.{has_quantified, has_term}
+use Rattle.logic_frag.proofs.FoundTerms.{has_term, quantifier_decides}
 use Rattle.logic_frag.proofs.IntegerMeanings.{nonlinear}
 use Rattle.logic_frag.proofs.OtherArrays.{has_array_sort}
 
@@ -84,8 +84,8 @@ defines_recursively _ = inr (λ h. h)
 
 has_quantifier : (c : PlainCommand) → IsDecided (HasTerm c (λ o. IsQuantifier o.its))
 has_quantifier c =
-    let found = command_has_part is_quantifier c in
-    by_test found (HasTerm c (λ o. IsQuantifier o.its)) (has_quantified found c refl)
+    let test = λ (o : Occurrence). is_quantifier o.its in
+    by_test (list_any test (occurrences_in c)) (HasTerm c (λ o. IsQuantifier o.its)) (has_term test (λ o. IsQuantifier o.its) (λ o. quantifier_decides o.its) c)
 
 module _ (context : Context) (lower : AppliesLower context.kept) (c : PlainCommand) where
   has_nonlinear : IsDecided (HasTerm c (IsNonlinear context))
@@ -100,8 +100,7 @@ module _ (context : Context) (lower : AppliesLower context.kept) (c : PlainComma
 
 has_other_array : (l : Description) (c : PlainCommand) → IsDecided (HasSort c (IsOtherArray l.arrays))
 has_other_array l c =
-    let found = command_has_array l.arrays c in
-    by_test found (HasSort c (IsOtherArray l.arrays)) (has_array_sort l.arrays c found refl)
+    by_test (command_has_array l.arrays c) (HasSort c (IsOtherArray l.arrays)) (has_array_sort l.arrays c)
 
 pub rule_decided : (l : Description) (texts : List (List ℕ)) (kept : List PlainDef) (c : PlainCommand) → AppliesLower kept → (code : Code) → BreaksRule l (context_of texts kept c) c code ⊎ (BreaksRule l (context_of texts kept c) c code → ⊥)
 rule_decided l texts kept c lower code.QuantifierOutsideLogic = both (l.q ≡ false) (HasTerm c (λ o. IsQuantifier o.its)) (is_false l.q) (has_quantifier c)

@@ -1,5 +1,5 @@
 pub mod NamedLogics
-pub mod FoundParts
+pub mod FoundTerms
 pub mod WalkedTerms
 pub mod SortParts
 pub mod OtherArrays

@@ -1,6 +1,6 @@
 -- The search for an array sort finds one exactly where one is among the sorts of the command.
 use Rattle.std.proofs.Common.{◌≡◌, Bool, true, false, ◌||◌, ◌&&◌, not, List, [], ◌∷◌, ◌++◌, IsTrue, refl, sym, ap, subst, ◌∙◌, rules}
-use Rattle.std.specs.Prelude.{◌↔◌}
+use Rattle.std.specs.Prelude.{◌↔◌, Result, Ok, Err, IfOk}
 use Rattle.std.specs.List.{list_any, flat_map}
 use Rattle.std.proofs.lemmas.List.Folds.{list_any-append, list_any-from_Any, Any-from_list_any}
 use Rattle.sort_store.specs.declared.head.Head.TheVariants as head
@@ -9,11 +9,11 @@ use Rattle.term_store.specs.Command.{PlainCommand}
 use Rattle.logic_frag.specs.declared.logic.ArrayPart.{ArrayPart}
 use Rattle.logic_frag.specs.declared.logic.ArrayPart.TheVariants as arrays
 use Rattle.logic_frag.specs.ArraySorts.{sorts_in, sorts_in_each, sorts_at, declared_sorts, command_sorts, IsBitVector, AreBitVectors, IsOtherArray}
-use Rattle.logic_frag.specs.FragmentRules.{HasSort}
+use Rattle.logic_frag.specs.FragmentRules.{HasSort, HasTerm}
 use Rattle.logic_frag.specs.IntegerTerms.{int}
 use Rattle.logic_frag.specs.Occurrences.{Occurrence, occurrences_in}
 use Rattle.logic_frag.specs.SortSearch.{has_sort, any_has_sort, is_element, are_elements, is_other_array, has_other_array, has_array_at, command_has_array}
-use Rattle.logic_frag.proofs.FoundParts.{found_in_command}
+use Rattle.logic_frag.proofs.FoundTerms.{has_term}
 
 -- the test of one sort
 
@@ -117,20 +117,40 @@ found_in_sorts part c =
     any_flat sorts_in (has_other_array part) (is_other_array part) (found_sort (is_other_array part)) (declared_sorts c ++ flat_map sorts_at (occurrences_in c))
     ∙ list_any-append (has_other_array part) (declared_sorts c) (flat_map sorts_at (occurrences_in c))
     ∙ ap (λ b. list_any (has_other_array part) (declared_sorts c) || b)
-    (any_flat sorts_at (λ (o : Occurrence). has_array_at part o.its) (has_other_array part) (λ o. refl) (occurrences_in c) ∙ found_in_command (has_array_at part) c)
+    (any_flat sorts_at (λ (o : Occurrence). has_array_at part o.its) (has_other_array part) (λ o. refl) (occurrences_in c))
 
-pub has_array_sort : (part : ArrayPart) (c : PlainCommand) (b : Bool) → b ≡ command_has_array part c → IsTrue b ↔ HasSort c (IsOtherArray part)
-has_array_sort part c b e = (there_is, is_found)
+pub has_array_sort : (part : ArrayPart) (c : PlainCommand) → IsTrue (command_has_array part c) ↔ HasSort c (IsOtherArray part)
+has_array_sort part c = (there_is, is_found)
   where
-    there_is : IsTrue b → HasSort c (IsOtherArray part)
+    there_is : IsTrue (command_has_array part c) → HasSort c (IsOtherArray part)
     there_is h =
-        let any = Any-from_list_any (is_other_array part) (command_sorts c) (found_in_sorts part c ∙ sym e ∙ h) in
+        let any = Any-from_list_any (is_other_array part) (command_sorts c) (found_in_sorts part c ∙ h) in
         record { its = any.1; contained = (any.0, any.2, any.3); kind = (other_array part any.1).0 any.4 }
 
-    is_found : HasSort c (IsOtherArray part) → IsTrue b
+    is_found : HasSort c (IsOtherArray part) → IsTrue (command_has_array part c)
     is_found h =
         let at = h.contained in
-        e ∙ sym (found_in_sorts part c) ∙ list_any-from_Any (is_other_array part) (command_sorts c) (at.0, h.its, at.1, at.2, (other_array part h.its).1 h.kind)
+        sym (found_in_sorts part c) ∙ list_any-from_Any (is_other_array part) (command_sorts c) (at.0, h.its, at.1, at.2, (other_array part h.its).1 h.kind)
+
+abbrev HasArrayTerm : ArrayPart → PlainCommand → Type 0
+HasArrayTerm part c = HasTerm c (λ o. IsTrue (has_array_at part o.its))
+
+-- where no declaration has such a sort, a term has it
+in_terms : (part : ArrayPart) (c : PlainCommand) → list_any (has_other_array part) (declared_sorts c) ≡ false → HasArrayTerm part c ↔ HasSort c (IsOtherArray part)
+in_terms part c e =
+    let test = λ (o : Occurrence). has_array_at part o.its in
+    let found = has_term test (λ o. IsTrue (test o)) (λ o. (λ h. h, λ h. h)) c in
+    let all : command_has_array part c ≡ list_any test (occurrences_in c) = ap (λ b. b || list_any test (occurrences_in c)) e in
+    (λ h. (has_array_sort part c).0 (all ∙ found.1 h), λ h. found.0 (sym all ∙ (has_array_sort part c).1 h))
+
+pub terms_answer : {E : Type 0} (part : ArrayPart) (c : PlainCommand) (r : Result Bool E) → list_any (has_other_array part) (declared_sorts c) ≡ false
+    → IfOk r (λ b. IsTrue b ↔ HasArrayTerm part c) → IfOk r (λ b. IsTrue b ↔ HasSort c (IsOtherArray part))
+terms_answer part c (Ok b) e h = (λ t. (in_terms part c e).0 (h.0 t), λ s. h.1 ((in_terms part c e).1 s))
+terms_answer part c (Err x) e h = tt
+
+-- .. and where one has it, the command has it
+pub in_declarations : (part : ArrayPart) (c : PlainCommand) → list_any (has_other_array part) (declared_sorts c) ≡ true → HasSort c (IsOtherArray part)
+in_declarations part c e = (has_array_sort part c).0 (ap (λ b. b || list_any (λ (o : Occurrence). has_array_at part o.its) (occurrences_in c)) e)
 
 pub appended : (part : ArrayPart) (xs ys : List Sort) → list_any (has_other_array part) (xs ++ ys) ≡ (list_any (has_other_array part) xs || list_any (has_other_array part) ys)
 appended part xs ys = list_any-append (has_other_array part) xs ys

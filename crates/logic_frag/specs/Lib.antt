@@ -5,9 +5,8 @@ pub mod StandsFor
 pub mod IntegerTerms
 pub mod ArraySorts
 pub mod FragmentRules
-pub mod TermSearch
 pub mod SortSearch
-pub mod TermKinds
+pub mod Quantifiers
 pub mod ScopeFrames
 pub mod ScopeLinks
 pub mod SeenTerms
@@ -15,6 +14,6 @@ pub mod Following
 pub mod Walk
 pub mod Weights
 pub mod IntegerTests
-pub mod IntegerRules
+pub mod TermRules
 pub mod Laws
 pub mod DifferenceTests

@@ -9,7 +9,7 @@ use Rattle.term_store.specs.Term.{PlainTerm, plain_sort}
 use Rattle.logic_frag.specs.declared.logic.ArrayPart.{ArrayPart}
 use Rattle.logic_frag.specs.declared.logic.ArrayPart.TheVariants as arrays
 use Rattle.logic_frag.specs.ArraySorts.{declared_sorts, quantified_sorts}
-use Rattle.logic_frag.specs.TermSearch.{command_has_part}
+use Rattle.logic_frag.specs.Occurrences.{Occurrence, occurrences_in}
 
 -- the sort or a sort in it is of the kind
 abbrev mutual
@@ -67,4 +67,4 @@ abbrev pub has_array_at : ArrayPart → PlainTerm → Bool
 has_array_at part t = has_other_array part (plain_sort t) || list_any (has_other_array part) (quantified_sorts t)
 
 abbrev pub command_has_array : ArrayPart → PlainCommand → Bool
-command_has_array part c = list_any (has_other_array part) (declared_sorts c) || command_has_part (has_array_at part) c
+command_has_array part c = list_any (has_other_array part) (declared_sorts c) || list_any (λ (o : Occurrence). has_array_at part o.its) (occurrences_in c)

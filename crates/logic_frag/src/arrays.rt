@@ -1,17 +1,21 @@
 //! The array sorts of a command that a logic does not have.
-ghost use Rattle.std.specs.Prelude.{◌≡◌, ◌↔◌, ◌||◌, ℕ, List, IsTrue, map};
+ghost use Rattle.std.specs.Prelude.{◌≡◌, ◌↔◌, ◌||◌, ℕ, List, IfOk, IsTrue, map};
 ghost use Rattle.std.specs.List.{flat_map, list_any};
 ghost use Rattle.sort_store.specs.Tree.{tree};
 ghost use Rattle.term_store.specs.Command.{PlainConstructor, PlainField, plain_command, plain_constructor, plain_datatype, plain_def, plain_field};
 ghost use Rattle.logic_frag.specs.ArraySorts.{IsOtherArray, constructor_sorts, declared_sorts, field_sorts, signature_sorts};
+ghost use Rattle.logic_frag.specs.Following.{AppliesLower, plain_defs};
 ghost use Rattle.logic_frag.specs.FragmentRules.{HasSort};
-ghost use Rattle.logic_frag.specs.SortSearch.{command_has_array, has_other_array};
+ghost use Rattle.logic_frag.specs.SortSearch.{has_other_array};
 
+use crate::broken::{Rule, has_term_outside};
 use crate::logic::ArrayPart;
-use crate::search::{Kind, any_variable_has_array, command_has_part};
-use crate::sorts::has_other_array;
+use crate::sorts::{any_variable_has_array, has_other_array, is_partial};
+use io_core::NoMemory;
+use lex_core::Names;
 use sort_store::SortRef;
-use term_store::{Constructor, Datatype, Def, Field, TypedCommand};
+use std::alloc::Global;
+use term_store::{Constructor, Datatype, Def, Defs, Field, TypedCommand};
 
 fn any_sort_has_array(part: ArrayPart, sorts: &[SortRef]) -> bool
     ensures { result ≡ list_any (has_other_array part) (map tree sorts.now) }
@@ -99,15 +103,23 @@ fn declares_array(part: ArrayPart, command: &TypedCommand) -> bool
     }
 }
 
-fn find_array(part: ArrayPart, command: &TypedCommand) -> bool
-    ensures { result ≡ command_has_array part (plain_command command.now) }
+/// Whether an array sort that the logic does not have stands in the command. The only error is that
+/// memory runs out.
+pub(crate) fn has_array_outside(
+    alloc: Global,
+    names: &Names,
+    command: &TypedCommand,
+    defs: &Defs,
+    part: ArrayPart,
+) -> Result<bool, NoMemory>
+    requires { AppliesLower (plain_defs defs.now) }
+    ensures { IfOk result (λ found. IsTrue found ↔ HasSort (plain_command command.now) (IsOtherArray part)) }
 {
-    declares_array(part, command) || command_has_part(command, Kind::OtherArray(part))
-}
-
-/// Whether an array sort that the logic does not have stands in the command.
-pub(crate) fn has_array_outside(part: ArrayPart, command: &TypedCommand) -> bool
-    ensures { IsTrue result ↔ HasSort (plain_command command.now) (IsOtherArray part) }
-{
-    find_array(part, command)
+    if !is_partial(part) {
+        return Ok(false);
+    }
+    if declares_array(part, command) {
+        return Ok(true);
+    }
+    has_term_outside(alloc, names, command, defs, Rule::Arrays(part))
 }

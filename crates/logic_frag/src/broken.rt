@@ -1,30 +1,45 @@
-//! The search of a command for a term that breaks a rule on integers.
+//! The search of a command for a term that breaks a rule.
 ghost use Rattle.std.specs.Prelude.{◌≡◌, ◌↔◌, ◌++◌, IfOk, OnOk, IsTrue, map};
 ghost use Rattle.term_store.specs.Command.{PlainDef, plain_command, plain_def};
+ghost use Rattle.term_store.specs.Term.{tree};
 ghost use Rattle.logic_frag.specs.FragmentRules.{HasTerm, context_of, own_definitions};
 ghost use Rattle.logic_frag.specs.Following.{AppliesLower, context_in, plain_defs};
-ghost use Rattle.logic_frag.specs.IntegerRules.{Breaks};
+ghost use Rattle.logic_frag.specs.Quantifiers.{is_quantifier};
 ghost use Rattle.logic_frag.specs.SeenTerms.{occurrence};
+ghost use Rattle.logic_frag.specs.TermRules.{Breaks};
 ghost use Rattle.logic_frag.specs.Walk.{HasAny, all_in};
 
 use crate::difference::is_outside;
 use crate::known::Known;
 use crate::linear::is_nonlinear;
+use crate::logic::ArrayPart;
 use crate::seen::Seen;
+use crate::sorts::has_array_at;
 use crate::walk::{push_parts, push_roots};
 use io_core::NoMemory;
 use lex_core::Names;
 use sort_store::DeclNo;
 use std::alloc::{AllocError, Global};
-use term_store::{Def, Defs, TypedCommand};
+use term_store::{Def, Defs, TermNode, TermRef, TypedCommand};
 
-/// A rule on the terms over the integers.
+/// A rule on the terms of a command.
 #[derive(Clone, Copy, Debug, PartialEq, Eq)]
-pub enum Rule {
-    /// Linear terms alone.
+pub(crate) enum Rule {
+    /// No quantifiers.
+    QuantifierFree,
+    /// Linear terms over the integers alone.
     Linear,
     /// Difference logic.
     Difference,
+    /// No array sorts but those that such a logic has.
+    Arrays(ArrayPart),
+}
+
+#[tactic(auto, using(crate::proofs::WalkedTerms::walk_words))]
+fn is_quantifier(term: &TermRef) -> bool
+    ensures { result ≡ is_quantifier (tree term.now) }
+{
+    matches!(term.node(), TermNode::Quant { .. })
 }
 
 fn is_broken(known: &Known, rule: Rule, seen: &Seen) -> Result<bool, AllocError>
@@ -32,8 +47,10 @@ fn is_broken(known: &Known, rule: Rule, seen: &Seen) -> Result<bool, AllocError>
     ensures { IfOk result (λ broken. IsTrue broken ↔ Breaks rule (context_in known.now) (occurrence seen.now)) }
 {
     match rule {
+        Rule::QuantifierFree => Ok(is_quantifier(&seen.term)),
         Rule::Linear => is_nonlinear(known, seen),
         Rule::Difference => is_outside(known, seen),
+        Rule::Arrays(part) => Ok(has_array_at(part, &seen.term)),
     }
 }
 
@@ -112,7 +129,7 @@ fn find_broken(
 
 /// Whether a term of the command breaks the rule. Each definition that is not recursive applies in its
 /// body only functions with lower numbers. The only error is that memory runs out.
-pub fn has_term_outside(
+pub(crate) fn has_term_outside(
     alloc: Global,
     names: &Names,
     command: &TypedCommand,

@@ -11,7 +11,6 @@ use crate::declarations::{
     declares_datatype, declares_function, declares_sort, defines_recursively,
 };
 use crate::logic::{Logic, NumPart};
-use crate::search::has_quantifier;
 use io_core::NoMemory;
 use lex_core::Names;
 use sig_table::Code;
@@ -32,7 +31,10 @@ fn breaks_rule(
         ↔ BreaksRule (described logic.now) (context_of names.now (plain_defs defs.now) (plain_command command.now)) (plain_command command.now) code) }
 {
     match code {
-        Code::QuantifierOutsideLogic => Ok(!logic.q && has_quantifier(command)),
+        Code::QuantifierOutsideLogic => match logic.q {
+            true => Ok(false),
+            false => has_term_outside(alloc, names, command, defs, Rule::QuantifierFree),
+        },
         Code::SortOutsideLogic => Ok(!logic.s && declares_sort(command)),
         Code::FunctionOutsideLogic => Ok(!logic.f && declares_function(command)),
         Code::NotLinear => match logic.ints {
@@ -43,7 +45,7 @@ fn breaks_rule(
             NumPart::Difference => has_term_outside(alloc, names, command, defs, Rule::Difference),
             _ => Ok(false),
         },
-        Code::ArrayOutsideLogic => Ok(has_array_outside(logic.arrays, command)),
+        Code::ArrayOutsideLogic => has_array_outside(alloc, names, command, defs, logic.arrays),
         Code::DatatypeOutsideLogic => Ok(!logic.d && declares_datatype(command)),
         Code::RecursionOutsideLogic => Ok(!logic.r && defines_recursively(command)),
         _ => Ok(false),

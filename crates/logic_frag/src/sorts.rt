@@ -1,11 +1,14 @@
 //! The array sorts that a logic does not have.
-ghost use Rattle.std.specs.Prelude.{◌≡◌, ◌&&◌, not, map, slice_get};
+ghost use Rattle.std.specs.Prelude.{◌≡◌, ◌||◌, ◌&&◌, not, map, slice_get};
 ghost use Rattle.std.specs.List.{list_any};
 ghost use Rattle.sort_store.specs.Tree.{parts, tree};
-ghost use Rattle.logic_frag.specs.SortSearch.{has_array_tree, has_other_array, is_element, is_element_head, is_element_tree, is_other_array, is_partial, is_array_head};
+ghost use Rattle.term_store.specs.Term.{plain_var, tree as term_tree};
+ghost use Rattle.logic_frag.specs.SortSearch.{has_array_at, has_array_tree, has_other_array, is_element, is_element_head, is_element_tree, is_other_array, is_partial, is_array_head};
 
 use crate::logic::ArrayPart;
+use lex_core::NameId;
 use sort_store::{Head, SortRef};
+use term_store::{TermNode, TermRef};
 
 fn is_element_head(part: ArrayPart, head: Head) -> bool
     ensures { result ≡ is_element_head part head }
@@ -37,7 +40,8 @@ fn is_element_at(part: ArrayPart, sort: &SortRef, i: usize) -> bool
     }
 }
 
-fn is_partial(part: ArrayPart) -> bool
+/// Whether a logic has some array sorts and not others.
+pub(crate) fn is_partial(part: ArrayPart) -> bool
     ensures { result ≡ is_partial part }
 {
     matches!(part, ArrayPart::Ints | ArrayPart::Bits)
@@ -90,4 +94,30 @@ pub(crate) fn has_other_array(part: ArrayPart, sort: &SortRef) -> bool
         }
     }
     false
+}
+
+/// Whether such an array sort stands in the sort of a variable.
+pub(crate) fn any_variable_has_array(part: ArrayPart, vars: &[(NameId, SortRef)]) -> bool
+    ensures { result ≡ list_any (has_other_array part) (map (λ v. v.1) (map plain_var vars.now)) }
+{
+    for var in vars {
+        if has_other_array(part, &var.1) {
+            return true;
+        }
+    }
+    false
+}
+
+/// Whether such an array sort stands in the sort of the term, or in that of a variable that it quantifies.
+#[tactic(auto, using(crate::proofs::WalkedTerms::walk_words))]
+pub(crate) fn has_array_at(part: ArrayPart, term: &TermRef) -> bool
+    ensures { result ≡ has_array_at part (term_tree term.now) }
+{
+    if has_other_array(part, term.sort()) {
+        return true;
+    }
+    match term.node() {
+        TermNode::Quant { vars, .. } => any_variable_has_array(part, vars),
+        _ => false,
+    }
 }

@@ -1,7 +1,7 @@
 use Rattle.std.proofs.Common.{map, sym, ◌∙◌, refl}
 use Rattle.std.proofs.lemmas.Bool.{false≢true}
 use Rattle.logic_frag.specs.Following.{context_in}
-use Rattle.logic_frag.specs.IntegerRules.{Breaks}
+use Rattle.logic_frag.specs.TermRules.{Breaks}
 use Rattle.logic_frag.specs.ScopeFrames.{scope_of}
 use Rattle.logic_frag.specs.SeenTerms.{occurrence}
 use Rattle.logic_frag.proofs.Walking.{here_any, still_any, pending_smaller, popped_seen}

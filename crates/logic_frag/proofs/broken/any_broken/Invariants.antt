@@ -1,6 +1,6 @@
 use Rattle.std.specs.Prelude.{◌↔◌, map}
 use Rattle.logic_frag.specs.Following.{context_in}
-use Rattle.logic_frag.specs.IntegerRules.{Breaks}
+use Rattle.logic_frag.specs.TermRules.{Breaks}
 use Rattle.logic_frag.specs.SeenTerms.{occurrence}
 use Rattle.logic_frag.specs.Walk.{HasAny, all_in}
 use Rattle.logic_frag.proofs.Walking.{sizes}

@@ -1,7 +1,7 @@
 use Rattle.std.proofs.Common.{map, rules}
 use Rattle.term_store.specs.Command.{plain_command}
 use Rattle.logic_frag.specs.Following.{context_in}
-use Rattle.logic_frag.specs.IntegerRules.{Breaks}
+use Rattle.logic_frag.specs.TermRules.{Breaks}
 use Rattle.logic_frag.specs.SeenTerms.{occurrence}
 use Rattle.logic_frag.proofs.Walking.{command_answer}
 use Rattle.logic_frag.proofs.broken.has_broken.Goals as goal

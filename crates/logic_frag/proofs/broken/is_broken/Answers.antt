@@ -2,7 +2,7 @@ use Rattle.std.proofs.Common.{sym, subst}
 use Rattle.std.specs.Prelude.{◌↔◌, IsTrue, IfOk}
 use Rattle.term_store.specs.Term.{tree}
 use Rattle.logic_frag.specs.Following.{context_in}
-use Rattle.logic_frag.specs.IntegerRules.{Breaks}
+use Rattle.logic_frag.specs.TermRules.{Breaks}
 use Rattle.logic_frag.specs.ScopeFrames.{scope_of}
 use Rattle.logic_frag.specs.SeenTerms.{occurrence}
 use Rattle.logic_frag.proofs.DifferenceMeanings.{outside_answer}
