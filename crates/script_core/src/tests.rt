@@ -5,6 +5,7 @@ mod datatypes;
 mod definitions;
 mod fragments;
 mod large;
+mod linear;
 mod logics;
 mod naming;
 
