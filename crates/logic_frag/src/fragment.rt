@@ -31,10 +31,12 @@ fn breaks_rule(
         ↔ BreaksRule (described logic.now) (context_of names.now (plain_defs defs.now) (plain_command command.now)) (plain_command command.now) code) }
 {
     match code {
-        Code::QuantifierOutsideLogic => match logic.q {
-            true => Ok(false),
-            false => has_term_outside(alloc, names, command, defs, Rule::QuantifierFree),
-        },
+        Code::QuantifierOutsideLogic => {
+            if logic.q {
+                return Ok(false);
+            }
+            has_term_outside(alloc, names, command, defs, Rule::QuantifierFree)
+        }
         Code::SortOutsideLogic => Ok(!logic.s && declares_sort(command)),
         Code::FunctionOutsideLogic => Ok(!logic.f && declares_function(command)),
         Code::NotLinear => match logic.ints {

@@ -9,11 +9,11 @@ use Rattle.logic_frag.specs.Logics.{described}
 use Rattle.logic_frag.proofs.FirstBroken.{with_premise}
 use Rattle.logic_frag.proofs.fragment.breaks_rule.Goals as goal
 
-pub returns-in-false : goal.returns-in-false
-returns-in-false c =
+pub returns-else-logic : goal.returns-else-logic
+returns-else-logic c =
     let command = plain_command c.args.command.now in
     let context = context_of c.args.names.now (plain_defs c.args.defs.now) command in
-    let answer = with_premise (c.args.logic.now.q ≡ false) (HasTerm command (λ o. IsQuantifier o.its)) c.has_term_outside.result c.in-false.is c.has_term_outside.ensures in
+    let answer = with_premise (c.args.logic.now.q ≡ false) (HasTerm command (λ o. IsQuantifier o.its)) c.has_term_outside.result c.if-logic.false c.has_term_outside.ensures in
     subst (λ k. IfOk c.has_term_outside.result (λ b. IsTrue b ↔ BreaksRule (described c.args.logic.now) context command k)) (sym c.in-QuantifierOutsideLogic.is) answer
 
 pub returns-in-Linear : goal.returns-in-Linear
